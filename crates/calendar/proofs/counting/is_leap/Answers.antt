@@ -1,0 +1,17 @@
+use mathlib.Core.Path.{_≡_}
+use native.Mathlib.Omega.{arith}
+use Rattle.std.proofs.shelf.Ways.{tells}
+use Rattle.calendar.specs.Dates.{leapYear}
+use Rattle.calendar.proofs.counting.is_leap.Needs as need
+
+pub returns-then-year-ne0 : need.returns-then-year-ne0
+unfolding leapYear
+returns-then-year-ne0 c = grind (arith, tells)
+
+pub returns-else-year-ne0 : need.returns-else-year-ne0
+unfolding leapYear
+returns-else-year-ne0 c = grind (arith, tells)
+
+pub returns-else-year-eq0 : need.returns-else-year-eq0
+unfolding leapYear
+returns-else-year-eq0 c = grind (arith, tells)
