@@ -1,0 +1,3 @@
+pub mod Energy
+pub mod Figures
+pub mod Words

@@ -1,0 +1,10 @@
+// The words of the trade in balancing power, with its figures and its one rounding.
+pub mod figures;
+pub mod rounding;
+pub mod words;
+
+pub use words::Activation;
+pub use words::Bid;
+pub use words::Direction;
+pub use words::Kind;
+pub use words::Portfolio;

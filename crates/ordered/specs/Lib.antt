@@ -1,0 +1,3 @@
+pub mod Lex
+pub mod Listed
+pub mod Order

@@ -1,0 +1,4 @@
+mod Shared
+mod NordicRules
+mod DutchRules
+mod WorkedHours
