@@ -1,3 +1,4 @@
 pub mod Energy
+pub mod Order
 pub mod Figures
 pub mod Words
