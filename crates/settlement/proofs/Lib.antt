@@ -1,0 +1,5 @@
+pub mod Trade
+pub mod Supplements
+pub mod EnergyLaw
+pub mod MoneyLaw
+pub mod BalancedLaw

@@ -1,0 +1,3 @@
+pub mod Hour
+pub mod Payments
+pub mod HourLaws
