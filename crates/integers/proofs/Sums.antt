@@ -105,6 +105,11 @@ module _ {X : Type 0} where
   sumOver-sub f g [] = refl
   sumOver-sub f g (x ∷ xs) = let i = sumOver-sub f g xs in omega (arith, ints)
 
+  pub sumOver-scale : (c : ℤ) (f : X → ℤ) (xs : List X) → sumOver (λ x. c *ℤ f x) xs ≡ c *ℤ sumOver f xs
+  unfolding sumOver
+  sumOver-scale c f [] = sym (*ℤ-zero c)
+  sumOver-scale c f (x ∷ xs) = ap (λ z. (c *ℤ f x) +ℤ z) (sumOver-scale c f xs) ∙ sym (mul-add c (f x) (sumOver f xs))
+
   pub sumOver-same : (f g : X → ℤ) (xs : List X) → All (λ x. f x ≡ g x) xs → sumOver f xs ≡ sumOver g xs
   unfolding sumOver
   sumOver-same f g [] a = refl
