@@ -5,6 +5,7 @@ pub mod rounding;
 pub mod words;
 
 pub use order::ActivationRanked;
+pub use order::BidRanked;
 pub use words::Activation;
 pub use words::Bid;
 pub use words::Direction;

@@ -1,0 +1,6 @@
+mod Counts
+mod Found
+mod Invariant
+pub mod Keeps
+mod Put
+mod Taken
