@@ -1,0 +1,5 @@
+pub mod Figures
+pub mod Journal
+pub mod Reckoned
+pub mod Lawful
+pub mod Sums
