@@ -95,7 +95,8 @@ module _ {X : Type 0} {beats : Price → Price → Bool} {W : Price → Price �
         bound = bound-more x xs (price x) (λ _. ends .level (price x)) (λ k l c. ends .chain (price x) p _ (ends .unbeaten p (price x) u) (h .bound k l c));
       })
 
-  best-is : (xs : List X) → Extreme-or-none W counts price d xs (best beats (map price (kept-by counts xs)))
+  -- the fold gives the extreme in words
+  pub best-is : (xs : List X) → Extreme-or-none W counts price d xs (best beats (map price (kept-by counts xs)))
   best-is [] = λ k h. absurd (omega arith)
   best-is (x ∷ xs) =
       cond-both (counts x) (x ∷ kept-by counts xs) (kept-by counts xs) (λ ys. Extreme-or-none W counts price d (x ∷ xs) (best beats (map price ys)))
@@ -110,6 +111,6 @@ module _ {X : Type 0} {beats : Price → Price → Bool} {W : Price → Price �
   unique xs (Some p) None a b = absurd (both-ways _ (b (a .reached .0) (a .reached .1)) (a .reached .2))
   unique xs (Some p) (Some q) a b = ap Some (ends .same p q (no-closer xs p q a b) (no-closer xs q p b a))
 
-  -- the extreme in words is the one that the fold gives
+  -- and there is no other
   pub extreme-is-best : (xs : List X) (r : Option Price) → Extreme-or-none W counts price d xs r → r ≡ best beats (map price (kept-by counts xs))
   extreme-is-best xs r h = unique xs r _ h (best-is xs)

@@ -1,5 +1,5 @@
 -- Halves rounded down.
-use mathlib.Core.Path.{_≡_, refl, sym, ap, _∙_}
+use mathlib.Core.Path.{_≡_, refl, sym, ap, subst, _∙_}
 use Prim.Native.Nat.{ℕ, _+_, _/_, _^_, _<_}
 use native.Mathlib.Omega.{arith}
 use lib.IntN.{ℤ, pos, negsuc, _+ℤ_}
@@ -39,6 +39,12 @@ halved u d f g r fu fd ef eg er =
     let back : toZ w32 (ofZ w32 (toZ w64 (ofZ w64 r))) ≡ r = omega (arith, ints) in
     back ∙ r-is
 
+pub middle-is : (up down : Option Price) (spot : Price) → MidpointOrSpot up down spot (middle up down spot)
+middle-is None None spot = refl
+middle-is None (Some q) spot = refl
+middle-is (Some p) None spot = refl
+middle-is (Some p) (Some q) spot = record { not-above = half-below (p .0 +ℤ q .0); no-next = half-next (p .0 +ℤ q .0) }
+
 pub middle-of : (up down : Option Price) (spot p q : Price) (m : ℤ) → up ≡ Some p → down ≡ Some q → m ≡ half (p .0 +ℤ q .0)
     → (record { 0 = m } ≡ middle up down spot) × MidpointOrSpot up down spot (record { 0 = m })
 middle-of None down spot p q m e h is = absurd (let z : _≡_ {A = ℕ} 0 1 = cc in omega arith)
@@ -47,6 +53,5 @@ middle-of (Some x) (Some y) spot p q m e h is =
     let x-is : x ≡ p = cc in
     let y-is : y ≡ q = cc in
     let m-is : m ≡ half (x .0 +ℤ y .0) = is ∙ sym (ap (λ a. half (a .0 +ℤ q .0)) x-is) ∙ sym (ap (λ b. half (x .0 +ℤ b .0)) y-is) in
-    let below = half-below (x .0 +ℤ y .0) in
-    let next = half-next (x .0 +ℤ y .0) in
-    (ap (λ z. record { 0 = z }) m-is, record { not-above = omega (arith, ints); no-next = omega (arith, ints) })
+    let m-middle = ap (λ z. record { 0 = z }) m-is in
+    (m-middle, subst (Midpoint x y) (sym m-middle) (middle-is (Some x) (Some y) spot))

@@ -9,3 +9,4 @@ mod Regularity
 mod Together
 mod Rows
 mod Alone
+pub mod Reckoned

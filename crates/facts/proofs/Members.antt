@@ -15,7 +15,7 @@ use Rattle.market.specs.Words.{noActivation}
 use Rattle.facts.specs.Listed.{anyOf, SomeOf, NoneOf}
 
 module _ (counts : Activation → Bool) (activations : List Activation) where
-  any-is-some : Decides (anyOf counts activations) (SomeOf counts activations (length activations))
+  pub any-is-some : Decides (anyOf counts activations) (SomeOf counts activations (length activations))
   any-is-some =
       decides-like (anyOf counts activations)
       (λ s. (s .0, s .1, s .2 noActivation))

@@ -3,11 +3,12 @@ use mathlib.Core.Bool.{Bool, true, false}
 use mathlib.Core.List.{List}
 use mathlib.Core.Logic.{⊎-elim}
 use mathlib.Core.Path.{_≡_, refl, sym, ap, subst, _∙_}
-use Prim.Native.Nat.{ℕ, _*_, _≤_, _<_}
+use Prim.Native.Nat.{ℕ, _*_, _≤_, _<_, min}
 use native.Mathlib.Omega.{arith}
-use lib.IntN.{ℤ, pos}
+use lib.IntN.{ℤ, pos, _-ℤ_}
 use lib.ListN.{length, getD}
 use lib.Signed.{_<ℤ_}
+use Rattle.std.specs.Orderings.{Decides}
 use Rattle.std.specs.declared.option.Option.{Option}
 use Rattle.std.specs.declared.option.Option.the-variants.{Some, None}
 use Rattle.std.proofs.shelf.Elements.{all-from-getD}
@@ -25,12 +26,12 @@ use Rattle.market.specs.Figures.{priceLimit}
 use Rattle.market.specs.Words.{energyOf, minutesOf, noActivation, noBid}
 use Rattle.market.proofs.EnergyLaws.{lawful}
 use Rattle.ladder.specs.Standing.{Extreme, NoLower, NoHigher}
-use Rattle.register.specs.Totals.{adds, listed, sameDirection, listedEnergy, Supplement}
+use Rattle.register.specs.Totals.{adds, listed, sameDirection, listedEnergy, greatestTotal, Supplement}
 use Rattle.pricing.specs.declared.Facts.{Facts}
 use Rattle.pricing.specs.Policies.{NotAbove, Within, Regular}
 use Rattle.facts.specs.Listed.{listedIn, SomeOf}
-use Rattle.facts.specs.Prices.{setsPrice, ExtremeOrSpot}
-use Rattle.facts.specs.Middle.{Midpoint, MidpointOrSpot}
+use Rattle.facts.specs.Prices.{setsPrice, ExtremeOrSpot, GreatestOrSpot, LeastOrSpot}
+use Rattle.facts.specs.Middle.{Midpoint, MidpointOrSpot, Halfway}
 use Rattle.facts.specs.Facts.{Told}
 use Rattle.facts.specs.Sound.{OnItsSide, SoundActivation, BidsWithin, Sound}
 
@@ -47,11 +48,18 @@ at-spot Down spot = omega (arith, ints)
 mid-within : (n : ℕ) (p q m : Price) → Within n p → Within n q → Midpoint p q m → Within n m
 mid-within n p q m wp wq mid = record { low = omega (arith, ints); high = omega (arith, ints) }
 
-above-none : (u d : ℕ) (activations : List Activation) (z : ℤ) → Supplement activations u d z → 1 ≤ u → d ≤ 0 → pos 0 <ℤ z
-above-none u d activations z s some none = let e = s .capped in omega (arith, ints)
+-- where only one of the two amounts is there, z has its sign
+pub record Signed-by (up down : ℕ) (z : ℤ) : Type 0 where
+  pub upward : 1 ≤ up → down ≤ 0 → pos 0 <ℤ z
+  pub downward : up ≤ 0 → 1 ≤ down → z <ℤ pos 0
 
-below-none : (u d : ℕ) (activations : List Activation) (z : ℤ) → Supplement activations u d z → u ≤ 0 → 1 ≤ d → z <ℤ pos 0
-below-none u d activations z s none some = let e = s .capped in omega (arith, ints)
+-- such as their difference, or that of two others that are 0 exactly where they are
+pub difference-sign : (up down u d : ℕ) (z : ℤ) → min 1 u ≡ min 1 up → min 1 d ≡ min 1 down → z ≡ pos u -ℤ pos d → Signed-by up down z
+difference-sign up down u d z same-up same-down e =
+    record { upward = λ some none. omega (arith, ints); downward = λ none some. omega (arith, ints) }
+
+capped-sign : (up down : ℕ) (activations : List Activation) (z : ℤ) → Supplement activations up down z → Signed-by up down z
+capped-sign up down activations z s = difference-sign up down (min up greatestTotal) (min down greatestTotal) z (omega arith) (omega arith) (s .capped)
 
 module _ (spot : Price) (hour : Position) (activations : List Activation) (ups downs : List Bid) (sound : Sound spot hour activations ups downs) where
   abbrev at : ℕ → Activation
@@ -100,12 +108,15 @@ module _ (spot : Price) (hour : Position) (activations : List Activation) (ups d
       (λ k within. ⊎-elim (λ t. absurd (none (k, within, t))) (λ f. let is = cond-false (listedIn hour direction (at k)) (energyOf (at k)) 0 f in omega arith) (cases-bool (listedIn hour direction (at k)))) in
       omega (arith, sumBy-le (adds (listed hour) direction) 0 activations each)
 
-  pub regular : (minutes : ℕ) (f : Facts) → Told minutes spot hour activations ups downs f → Regular f
-  regular minutes f told =
-      let up = priced NoHigher Up minutes (f .«up_price») (told .up-price) in
-      let down = priced NoLower Down minutes (f .«down_price») (told .down-price) in
-      let same = told .same-spot in
-      let mid = told .middle-price in
+  -- from the prices in words, the sign of the net energy and the directions of the listed activations
+  pub regular-by : (minutes : ℕ) (f : Facts) → f .spot ≡ spot
+      → GreatestOrSpot (setsPrice minutes hour Up) spot activations (f .«up_price») → LeastOrSpot (setsPrice minutes hour Down) spot activations (f .«down_price»)
+      → Halfway spot hour ups downs (f .middle) → Signed-by (listedEnergy hour Up activations) (listedEnergy hour Down activations) (f .«net_energy» .0)
+      → Decides (f .«went_up») (SomeOf (listedIn hour Up) activations (length activations)) → Decides (f .«went_down») (SomeOf (listedIn hour Down) activations (length activations))
+      → Regular f
+  regular-by minutes f same up-price down-price mid sign upward downward =
+      let up = priced NoHigher Up minutes (f .«up_price») up-price in
+      let down = priced NoLower Down minutes (f .«down_price») down-price in
       record {
         down-not-above-spot = subst (λ s. NotAbove (f .«down_price») s) (sym same) (down .1);
         spot-not-above-up = subst (λ s. NotAbove s (f .«up_price»)) (sym same) (up .1);
@@ -113,8 +124,10 @@ module _ (spot : Price) (hour : Position) (activations : List Activation) (ups d
         up-within = up .0;
         down-within = down .0;
         middle-within = middling (mid .0) (mid .1) (f .middle) (mid .2) (mid .3) (mid .4);
-        upward-net = λ only.
-            above-none _ _ activations _ (told .net) (some-energy Up (told .upward .0 (only .0))) (no-energy Down (not-from-decides _ (told .downward) (only .1)));
-        downward-net = λ only.
-            below-none _ _ activations _ (told .net) (no-energy Up (not-from-decides _ (told .upward) (only .0))) (some-energy Down (told .downward .0 (only .1)));
+        upward-net = λ only. sign .upward (some-energy Up (upward .0 (only .0))) (no-energy Down (not-from-decides _ downward (only .1)));
+        downward-net = λ only. sign .downward (no-energy Up (not-from-decides _ upward (only .0))) (some-energy Down (downward .0 (only .1)));
       }
+
+  pub regular : (minutes : ℕ) (f : Facts) → Told minutes spot hour activations ups downs f → Regular f
+  regular minutes f told =
+      regular-by minutes f (told .same-spot) (told .up-price) (told .down-price) (told .middle-price) (capped-sign _ _ activations _ (told .net)) (told .upward) (told .downward)

@@ -64,6 +64,11 @@ in-general : (W : Price → Price → Type 0) (counts : Activation → Bool) (ac
 in-general W counts activations None h = h
 in-general W counts activations (Some p) h = record { reached = h .reached; bound = h .bound }
 
+-- and back, with spot where none counts
+pub or-spot : (W : Price → Price → Type 0) (counts : Activation → Bool) (spot : Price) (activations : List Activation) (r : Option Price) → Extreme-or-none W counts (λ a. a .price) noActivation activations r → ExtremeOrSpot W counts spot activations (valueOr r spot)
+or-spot W counts spot activations None h = inr (h, refl)
+or-spot W counts spot activations (Some p) h = inl (record { reached = h .reached; bound = h .bound })
+
 pub is-balancing : (direction : Direction) (minutes : ℕ) (spot : Price) (hour : Position) (activations : List Activation) (r : Option Price)
     → ExtremeOf (NoFurther direction) (setsPrice minutes hour direction) activations (length activations) r → valueOr r spot ≡ balancingPrice direction minutes spot hour activations
 is-balancing Up minutes spot hour activations r h =

@@ -83,12 +83,12 @@ reading-leaves booking f h p meter x e k =
     let g : Figures = withReading h p meter x f in
     ⊎-elim
     (λ same.
-     let none : f .settled k ≡ None = ap (f .settled) same ∙ e in
-     not-settled booking g k (ap (λ s. s k) (reading-settled f h p meter x) ∙ none) ∙ sym (not-settled booking f k none))
+    let none : f .settled k ≡ None = ap (f .settled) same ∙ e in
+    not-settled booking g k (ap (λ s. s k) (reading-settled f h p meter x) ∙ none) ∙ sym (not-settled booking f k none))
     (λ other.
-     ap (λ s. ifSettled (s k) (λ m. booking m (factsAt g k) (hourAt g k))) (reading-settled f h p meter x)
-     ∙ ap (λ facts. ifSettled (f .settled k) (λ m. booking m facts (hourAt g k))) (reading-facts f h p meter x k)
-     ∙ ap (λ hour. ifSettled (f .settled k) (λ m. booking m (factsAt f k) hour)) (reading-hour f h p meter x k other))
+    ap (λ s. ifSettled (s k) (λ m. booking m (factsAt g k) (hourAt g k))) (reading-settled f h p meter x)
+    ∙ ap (λ facts. ifSettled (f .settled k) (λ m. booking m facts (hourAt g k))) (reading-facts f h p meter x k)
+    ∙ ap (λ hour. ifSettled (f .settled k) (λ m. booking m (factsAt f k) hour)) (reading-hour f h p meter x k other))
     (cases-eq k h)
 
 settled-facts : (f : Figures) (h : ℕ) (m : Facts → Prices) (k : ℕ) → factsAt (withSettled h m f) k ≡ factsAt f k
@@ -103,17 +103,17 @@ settling-books booking f h m e k =
     let x : ℤ = booking m (factsAt f h) (hourAt f h) in
     ⊎-elim
     (λ same.
-     let is : settledAt booking g k ≡ booking m (factsAt f k) (hourAt f k) =
-       ap (λ o. ifSettled o (λ n. booking n (factsAt g k) (hourAt g k))) (cond-true (eqb k h) (Some m) (f .settled k) (eq-eqb k h same))
-       ∙ ap (λ facts. booking m facts (hourAt f k)) (settled-facts f h m k) in
-     is ∙ ap (λ j. booking m (factsAt f j) (hourAt f j)) same
-     ∙ none-plus x (settledAt booking f k) (not-settled booking f k (ap (f .settled) same ∙ e))
-     ∙ ap (λ z. settledAt booking f k +ℤ z) (sym (cond-true (eqb h k) x (pos 0) (eq-eqb h k (sym same)))))
+    let is : settledAt booking g k ≡ booking m (factsAt f k) (hourAt f k) =
+    ap (λ o. ifSettled o (λ n. booking n (factsAt g k) (hourAt g k))) (cond-true (eqb k h) (Some m) (f .settled k) (eq-eqb k h same))
+    ∙ ap (λ facts. booking m facts (hourAt f k)) (settled-facts f h m k) in
+    is ∙ ap (λ j. booking m (factsAt f j) (hourAt f j)) same
+    ∙ none-plus x (settledAt booking f k) (not-settled booking f k (ap (f .settled) same ∙ e))
+    ∙ ap (λ z. settledAt booking f k +ℤ z) (sym (cond-true (eqb h k) x (pos 0) (eq-eqb h k (sym same)))))
     (λ other.
-     let is : settledAt booking g k ≡ settledAt booking f k =
-       ap (λ o. ifSettled o (λ n. booking n (factsAt g k) (hourAt g k))) (cond-false (eqb k h) (Some m) (f .settled k) (ne-eqb k h other))
-       ∙ ap (λ facts. ifSettled (f .settled k) (λ n. booking n facts (hourAt f k))) (settled-facts f h m k) in
-     plus-none _ _ is ∙ ap (λ z. settledAt booking f k +ℤ z) (sym (cond-false (eqb h k) x (pos 0) (ne-eqb h k (λ back. other (sym back))))))
+    let is : settledAt booking g k ≡ settledAt booking f k =
+    ap (λ o. ifSettled o (λ n. booking n (factsAt g k) (hourAt g k))) (cond-false (eqb k h) (Some m) (f .settled k) (ne-eqb k h other))
+    ∙ ap (λ facts. ifSettled (f .settled k) (λ n. booking n facts (hourAt f k))) (settled-facts f h m k) in
+    plus-none _ _ is ∙ ap (λ z. settledAt booking f k +ℤ z) (sym (cond-false (eqb h k) x (pos 0) (ne-eqb h k (λ back. other (sym back))))))
     (cases-eq k h)
 
 either-stage : (s : Stage) → (s ≡ Planned) ⊎ (s ≡ Running) → s ≡ Metered → ⊥
@@ -168,5 +168,5 @@ booked-sum booking opening [] l = sym (none-settled booking (opening .hours) (fi
 booked-sum booking opening (e ∷ journal) l =
     let f : Figures = figures opening journal in
     let one : sumTo (opening .hours) (settledAt booking (after e f)) ≡ sumTo (opening .hours) (settledAt booking f) +ℤ booked booking e f =
-      subst (λ o. sumTo (o .hours) (settledAt booking (after e f)) ≡ sumTo (o .hours) (settledAt booking f) +ℤ booked booking e f) (opening-of opening journal (l .0)) (step booking e f (kept opening journal (l .0)) (l .1)) in
+    subst (λ o. sumTo (o .hours) (settledAt booking (after e f)) ≡ sumTo (o .hours) (settledAt booking f) +ℤ booked booking e f) (opening-of opening journal (l .0)) (step booking e f (kept opening journal (l .0)) (l .1)) in
     ap (λ z. z +ℤ booked booking e f) (booked-sum booking opening journal (l .0)) ∙ sym one

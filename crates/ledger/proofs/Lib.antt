@@ -1,2 +1,4 @@
 pub mod Kept
 pub mod Accounts
+pub mod Law
+pub mod SampleDay

@@ -3,3 +3,4 @@ pub mod Journal
 pub mod Reckoned
 pub mod Lawful
 pub mod Sums
+pub mod Sample

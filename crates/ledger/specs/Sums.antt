@@ -1,8 +1,8 @@
 -- The law of the three sums, over every run of lawful calls.
-use Prim.Native.Nat.{ℕ, _<_}
+use Prim.Native.Nat.{ℕ}
 use mathlib.Core.Bool.{true}
 use mathlib.Core.Path.{_≡_}
-use lib.IntN.{ℤ, pos, negℤ, _+ℤ_}
+use lib.IntN.{pos, negℤ, _+ℤ_}
 use lib.Signed.{_≤ℤ_}
 use Rattle.std.specs.declared.option.Option.the-variants.{Some}
 use Rattle.market.specs.declared.words.Direction.{Direction}
@@ -13,14 +13,10 @@ use Rattle.facts.specs.Listed.{went}
 use Rattle.settlement.specs.HourLaws.{EnergySums, Balanced, OneWay}
 use Rattle.settlement.specs.Payments.{gain}
 use Rattle.integers.specs.Sums.{sumTo}
-use Rattle.ledger.specs.Figures.{Opening, Figures}
+use Rattle.ledger.specs.Figures.{Opening}
 use Rattle.ledger.specs.Journal.{Journal, figures}
 use Rattle.ledger.specs.Reckoned.{position, hourAt, factsAt, dueToParty, taken, settledAt, account, operatorAccount}
 use Rattle.ledger.specs.Lawful.{LawfulJournal}
-
--- the hours of the day as they stand at the end of the journal
-abbrev pub hoursOf : Opening → ℕ
-hoursOf opening = opening .hours
 
 pub record ThreeSums (opening : Opening) (journal : Journal) : Type 0 where
   -- each account is the sum, over the settled hours, of what is due under that hour's policy and facts

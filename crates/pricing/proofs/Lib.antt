@@ -1,4 +1,4 @@
 mod Shared
-mod NordicRules
-mod DutchRules
+pub mod NordicRules
+pub mod DutchRules
 mod WorkedHours

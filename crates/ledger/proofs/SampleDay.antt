@@ -1,0 +1,77 @@
+-- The sample day, computed.
+use Prim.Native.Nat.{ℕ}
+use native.Mathlib.Omega.{arith}
+use mathlib.Core.Path.{_≡_, refl}
+use mathlib.Core.Logic.{inl, inr}
+use lib.Dec.{lit<, lit≤}
+use Rattle.std.proofs.shelf.Signed.{ints}
+use Rattle.market.specs.Energy.{energy}
+use Rattle.ordered.specs.Lex.{lexBefore}
+use Rattle.register.specs.Registered.{withActivation}
+use Rattle.facts.specs.Minutes.{rose, fell}
+use Rattle.pricing.proofs.NordicRules.{nordic-rules}
+use Rattle.integers.specs.Sums.{sumTo, sumOver}
+use Rattle.settlement.specs.Hour.{counted}
+use Rattle.settlement.specs.Payments.{priced, payment}
+use Rattle.ledger.specs.Reckoned.{factsAt, bookedIn}
+use Rattle.ledger.specs.Lawful.{LawfulOpening}
+use Rattle.ledger.specs.Sample.{sampleOpening, SampleDay}
+
+within-limit : LawfulOpening sampleOpening
+within-limit h l = record { low = omega (arith, ints); high = omega (arith, ints) }
+
+pub sample-day : SampleDay
+unfolding energy lexBefore withActivation rose fell sumTo sumOver counted priced payment factsAt bookedIn
+sample-day =
+    record {
+      lawful = (
+        (
+          (
+            (
+              (
+                (
+                  (
+                    (
+                      (
+                        (
+                          (
+                            (
+                              (
+                                (
+                                  within-limit,
+                                  (refl, refl),
+                                ),
+                                (refl, refl),
+                              ),
+                              inl refl,
+                            ),
+                            inl refl,
+                          ),
+                          inl refl,
+                        ),
+                        refl,
+                      ),
+                      (refl, record { in-day = lit< tt; entered = lit< tt; enough = lit≤ tt; price-within = record { low = omega (arith, ints); high = omega (arith, ints) }; side = omega (arith, ints) }),
+                    ),
+                    (refl, record { bid = _; stands = refl; of-hour = refl; lasts = lit< tt }),
+                  ),
+                  refl,
+                ),
+                (refl, refl),
+              ),
+              (refl, refl),
+            ),
+            (refl, refl),
+          ),
+          (refl, refl),
+        ),
+        (refl, refl, lit< tt, nordic-rules),
+      );
+      settled = refl;
+      balanced = refl;
+      one-way = (λ e. (refl, refl), tt);
+      went-up = refl;
+      first-party = refl;
+      second-party = refl;
+      operator = refl;
+    }
