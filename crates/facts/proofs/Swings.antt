@@ -5,15 +5,12 @@ use Prim.Native.Nat.{ℕ, _+_, _-_, _*_, _^_, _≤_, _<_}
 use native.Mathlib.Omega.{arith}
 use lib.IntN.{ℤ, pos, _+ℤ_, _-ℤ_}
 use lib.ListN.{length, getD, take}
-use mir.Syntax.{w64}
-use mir.Val.{SFits, toZ, ofZ}
 use Rattle.std.specs.Numbers.{saturated}
 use Rattle.std.proofs.shelf.Lists.{take-all}
-use Rattle.std.proofs.shelf.Signed.{ints, toZ-ofZ}
+use Rattle.std.proofs.shelf.Signed.{ints}
 use Rattle.std.proofs.shelf.Sums.{sumBy-more}
 use Rattle.units.specs.declared.Position.{Position}
 use Rattle.market.specs.declared.words.Activation.{Activation}
-use Rattle.market.specs.declared.words.Direction.{Direction}
 use Rattle.market.specs.declared.words.Direction.the-variants.{Up, Down}
 use Rattle.market.specs.Words.{noActivation}
 use Rattle.register.specs.Totals.{Short}

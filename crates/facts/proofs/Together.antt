@@ -1,9 +1,8 @@
 -- The facts from their parts.
 use mathlib.Core.Bool.{Bool}
 use mathlib.Core.List.{List}
-use mathlib.Core.Path.{_≡_, ap, _∙_}
+use mathlib.Core.Path.{_≡_, ap}
 use Prim.Native.Nat.{ℕ}
-use lib.IntN.{ℤ}
 use Rattle.units.specs.declared.KilowattHours.{KilowattHours}
 use Rattle.units.specs.declared.Position.{Position}
 use Rattle.units.specs.declared.Price.{Price}

@@ -16,10 +16,10 @@ use pricing::Facts;
 use units::Position;
 use units::Price;
 
-pub mod listed;
-pub mod middle;
-pub mod minutes;
-pub mod prices;
+mod listed;
+mod middle;
+mod minutes;
+mod prices;
 pub mod worked;
 
 // An activation sets a price if it lasts at least so many minutes. The bids are the standing ones of either direction.

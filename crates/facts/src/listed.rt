@@ -1,6 +1,5 @@
 // The listed activations of an hour.
 ghost use mathlib.Core.Path.{_≡_};
-ghost use mathlib.Core.Bool.{true};
 ghost use lib.ListN.{length};
 ghost use Rattle.std.specs.Orderings.{Decides};
 ghost use Rattle.register.specs.Totals.{listedEnergy, Supplement};

@@ -1,12 +1,12 @@
 -- How often a receipt stands in a list of bids, and what a single one tells. Assumes nothing.
-use mathlib.Core.Bool.{Bool, true, false, not, cond}
+use mathlib.Core.Bool.{Bool, true, false, cond}
 use mathlib.Core.List.{List, [], _∷_, _++_, map}
-use mathlib.Core.Logic.{_⊎_, inl, inr}
-use mathlib.Core.Path.{_≡_, refl, sym, ap, subst, _∙_}
+use mathlib.Core.Logic.{inl, inr}
+use mathlib.Core.Path.{_≡_, refl, sym, ap, _∙_}
 use Prim.Native.Nat.{ℕ, zero, suc, _+_, _≤_, _<_}
 use native.Mathlib.Omega.{arith}
-use lib.ListN.{length, getD, set, take, drop}
-use Rattle.std.proofs.shelf.Tests.{both-ways, cases-bool, cond-both, cond-false, cond-true, not-from-false, not-from-true}
+use lib.ListN.{length, getD, set}
+use Rattle.std.proofs.shelf.Tests.{cases-bool, cond-both, cond-false, cond-true, not-from-false, not-from-true}
 use Rattle.std.specs.Holes.{removed}
 use Rattle.std.specs.shelf.Lists.{kept-by}
 use Rattle.ordered.specs.Order.{placed}

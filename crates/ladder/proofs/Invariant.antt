@@ -1,5 +1,5 @@
 -- What the lists of standing bids are, they stay. Assumes nothing.
-use mathlib.Core.Bool.{true, _&&_}
+use mathlib.Core.Bool.{true}
 use mathlib.Core.List.{List, [], _∷_}
 use mathlib.Core.Path.{_≡_, refl, sym, subst}
 use Prim.Native.Nat.{ℕ, _+_, _≤_}
@@ -7,7 +7,7 @@ use native.Mathlib.Omega.{arith}
 use Rattle.std.proofs.shelf.Tests.{and-from, and-parts}
 use Rattle.std.specs.Holes.{removed}
 use Rattle.std.specs.shelf.Lists.{All}
-use Rattle.ordered.specs.Order.{placed, rises}
+use Rattle.ordered.specs.Order.{placed}
 use Rattle.ordered.proofs.Lexical.{lex-order}
 use Rattle.ordered.proofs.Placed.{all-placed, rises-placed}
 use Rattle.ordered.proofs.Removed.{all-removed, rises-removed}

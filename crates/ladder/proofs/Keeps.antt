@@ -1,10 +1,10 @@
 -- Laws for who reckons with the standing bids. Assumes nothing.
 --     all-none, all-added, all-dropped, all-taken, all-marked      what holds of each bid goes on to hold
 --     with-receipt, first-free      what a bid that is answered is: one of the list, of that receipt; the first that is free
-use mathlib.Core.Bool.{Bool, true, false, not, _&&_, cond}
-use mathlib.Core.List.{List, [], _∷_, map}
+use mathlib.Core.Bool.{Bool, true, false, not}
+use mathlib.Core.List.{List, [], _∷_}
 use mathlib.Core.Logic.{inl, inr}
-use mathlib.Core.Path.{_≡_, refl, sym, ap, subst, _∙_}
+use mathlib.Core.Path.{_≡_, refl, sym, subst, _∙_}
 use Prim.Native.Nat.{ℕ, zero, suc, _+_, _<_}
 use native.Mathlib.Omega.{arith}
 use lib.Dec.{eqb}

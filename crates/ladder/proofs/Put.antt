@@ -5,11 +5,11 @@ use mathlib.Core.Logic.{inl, inr}
 use mathlib.Core.Path.{_≡_, refl, sym, ap, subst, _∙_}
 use Prim.Native.Nat.{ℕ, _+_, _≤_, _<_}
 use native.Mathlib.Omega.{arith}
-use lib.Dec.{eqb, ltb}
+use lib.Dec.{ltb}
 use lib.ListN.{length, getD, set}
 use Rattle.std.proofs.shelf.Elements.{all-getD}
 use Rattle.std.proofs.shelf.Lists.{length-set}
-use Rattle.std.proofs.shelf.Tests.{cases-cond, cases-eq, cond-both, cond-false, cond-true, eq-eqb, lt-ltb, ne-eqb, or-left, or-right}
+use Rattle.std.proofs.shelf.Tests.{cases-cond, cases-eq, cond-false, cond-true, eq-eqb, lt-ltb, ne-eqb, or-left, or-right}
 use Rattle.std.specs.Options.{isSome}
 use Rattle.std.specs.declared.option.Option.{Option}
 use Rattle.std.specs.declared.option.Option.the-variants.{Some}
@@ -21,7 +21,7 @@ use Rattle.market.specs.Order.{bidBefore, bidKey, bidSame}
 use Rattle.market.specs.Words.{noBid}
 use Rattle.market.specs.declared.words.Bid.{Bid}
 use Rattle.market.specs.declared.words.Direction.{Direction}
-use Rattle.ladder.specs.Ladder.{StandingBids, mark, marked, withHeld}
+use Rattle.ladder.specs.Ladder.{mark, marked, withHeld}
 use Rattle.ladder.specs.Sides.{Fresh, Once, Side, hasReceipt, receiptCount}
 use Rattle.ladder.proofs.Counts.{count-at, count-placed, count-set, none-marked, set-marked}
 use Rattle.ladder.proofs.Invariant.{Of, only-all, side-placed}

@@ -1,9 +1,8 @@
-use mathlib.Core.Path.{_≡_, sym, ap, _∙_}
+use mathlib.Core.Path.{_≡_, ap, _∙_}
 use Prim.Native.Nat.{_+_, _-_, _≤_}
 use borrow.Author.Needs.{needs}
 use native.Mathlib.Omega.{arith}
 use mir.Syntax.{w64}
-use mir.Val.{toZ, ofZ}
 use Rattle.register.specs.Totals.{Short}
 use Rattle.market.specs.Figures.{minutesInHour}
 use Rattle.std.proofs.shelf.Signed.{toZ-ofZ}

@@ -1,6 +1,5 @@
-use mathlib.Core.Path.{sym, subst, _∙_}
-use borrow.Author.Needs.{needs}
-use Rattle.facts.specs.Prices.{setsPrice, NoFurther, ExtremeOf}
+use mathlib.Core.Path.{sym, _∙_}
+use Rattle.facts.specs.Prices.{setsPrice}
 use Rattle.facts.proofs.Setting.{keeps, takes}
 use Rattle.facts.proofs.prices.furthest.Needs as need
 use Rattle.facts.proofs.prices.furthest.Needs.{then-sets-price, else-sets-price}

@@ -1,8 +1,6 @@
-use mathlib.Core.List.{[], _∷_}
-use mathlib.Core.Path.{_≡_, refl, ap, _∙_}
+use mathlib.Core.Path.{refl}
 use Rattle.market.specs.Energy.{energy}
 use Rattle.facts.specs.Minutes.{rose, fell}
-use Rattle.facts.specs.Worked.{factsWith, workedHours}
 use Rattle.facts.proofs.Rows.{row, one, two}
 use Rattle.facts.proofs.worked.worked_cases.Needs as need
 

@@ -1,13 +1,12 @@
 use native.Mathlib.Omega.{arith}
-use mathlib.Core.Bool.{true}
-use mathlib.Core.Path.{_≡_, refl, sym, ap, subst, _∙_}
+use mathlib.Core.Path.{_≡_, sym, ap, _∙_}
 use Prim.Native.Nat.{_+_, _≤_, _<_}
 use lib.ListN.{length}
 use Rattle.std.specs.Results.{isOk}
 use Rattle.ordered.specs.Listed.{items, spaceOf}
 use Rattle.market.specs.declared.words.Direction.the-variants.{Up, Down}
-use Rattle.ladder.specs.Sides.{receiptCount, sameDirection}
-use Rattle.ladder.proofs.Put.{More, New, fresh-more, once-more, put-new}
+use Rattle.ladder.specs.Sides.{sameDirection}
+use Rattle.ladder.proofs.Put.{More, fresh-more, once-more, put-new}
 use Rattle.ladder.proofs.ladder.Ladder.add.Needs as need
 
 pub ghost-self : need.ghost-self

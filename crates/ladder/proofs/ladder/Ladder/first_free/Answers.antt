@@ -1,7 +1,5 @@
-use mathlib.Core.Path.{_≡_, refl, ap, subst, _∙_}
+use mathlib.Core.Path.{refl, ap, subst, _∙_}
 use lib.ListN.{getD}
-use Prim.Native.Nat.{ℕ}
-use Rattle.std.specs.declared.option.Option.{Option}
 use Rattle.std.specs.declared.option.Option.the-variants.{None, Some}
 use Rattle.market.specs.Words.{noBid}
 use Rattle.ladder.specs.Ladder.{bidsOf, isFree, view}

@@ -1,12 +1,11 @@
-use mathlib.Core.Path.{_≡_, refl, sym, ap, subst, _∙_}
+use mathlib.Core.Path.{sym, ap, _∙_}
 use native.Mathlib.Omega.{arith}
-use Prim.Native.Nat.{ℕ, _+_, _≤_}
+use Prim.Native.Nat.{_≤_}
 use lib.ListN.{length}
 use Rattle.std.specs.Finite.{nth}
 use Rattle.ordered.specs.Listed.{items}
 use Rattle.market.specs.declared.words.Direction.the-variants.{Up, Down}
 use Rattle.ladder.specs.Ladder.{bidsOf, view}
-use Rattle.ladder.specs.Sides.{receiptCount}
 use Rattle.ladder.proofs.Counts.{count-removed, length-removed}
 use Rattle.ladder.proofs.Invariant.{Fewer, fresh-fewer, once-fewer, side-removed}
 use Rattle.ladder.proofs.Taken.{taken-down, taken-up}

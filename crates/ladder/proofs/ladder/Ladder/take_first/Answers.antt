@@ -1,4 +1,4 @@
-use mathlib.Core.Path.{_≡_, refl, subst, _∙_}
+use mathlib.Core.Path.{refl, subst, _∙_}
 use Rattle.std.proofs.shelf.Maps.{nth-getD}
 use Rattle.std.specs.declared.option.Option.the-variants.{None, Some}
 use Rattle.market.specs.Words.{noBid}
