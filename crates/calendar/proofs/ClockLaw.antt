@@ -2,18 +2,18 @@
 use Prim.Native.Nat.{ℕ, _+_, _-_, _*_, _≤_, _<_}
 use native.Mathlib.Omega.{arith}
 use mathlib.Core.Path.{_≡_, refl, sym, _∙_, ap, subst}
-use mathlib.Core.Bool.{Bool, true, false, cond}
-use mathlib.Core.Logic.{_⊎_, inl, inr, ⊎-elim}
-use lib.Dec.{eqb, leb, ltb}
+use mathlib.Core.Bool.{true, false}
+use mathlib.Core.Logic.{_⊎_, ⊎-elim}
+use lib.Dec.{ltb}
 use lib.IntN.{ℤ, pos, _+ℤ_, _-ℤ_}
 use lib.Signed.{_≤ℤ_, _<ℤ_}
 use Rattle.std.proofs.shelf.Signed.{ints}
-use Rattle.std.proofs.shelf.Tests.{cases-bool, cases-order, cases-lt, and-parts, and-from, and-left, and-right, lt-ltb, le-ltb, le-leb, lt-leb, ltb-true, ltb-false, cond-true, cond-false, cond-both}
+use Rattle.std.proofs.shelf.Tests.{cases-bool, cases-order, and-from, and-left, and-right, lt-ltb, le-ltb, le-leb, lt-leb, ltb-true, ltb-false, cond-true, cond-false, cond-both}
 use Rattle.calendar.specs.declared.Date.{Date}
-use Rattle.calendar.specs.Dates.{leapYear, monthDays, daysToYear, daysToMonth, dayNumber, dayOf, LastSunday, Covered}
-use Rattle.calendar.specs.Clock.{SummerOf, SummerTime, Ahead, lastSunday, marchChange, octoberChange, onLastSunday, covered, hoursOf, startsInSummer, startAhead, aheadIn, aheadAt, startOf, startAt}
-use Rattle.calendar.proofs.DayTests.{covered-from, last-sunday-is, last-sunday-only, on-last-from, on-last-yes, on-march, on-october, ordinary, Bounds, bounds, has-hours}
-use Rattle.calendar.proofs.Years.{Changes, changes, year-gap, in-year, same-day}
+use Rattle.calendar.specs.Dates.{leapYear, dayNumber, dayOf, LastSunday, Covered}
+use Rattle.calendar.specs.Clock.{SummerTime, Ahead, lastSunday, marchChange, octoberChange, onLastSunday, hoursOf, startsInSummer, startAhead, aheadIn, aheadAt, startAt}
+use Rattle.calendar.proofs.DayTests.{covered-from, last-sunday-is, last-sunday-only, on-last-from, on-last-yes, on-march, on-october, ordinary, has-hours}
+use Rattle.calendar.proofs.Years.{changes, year-gap, in-year, same-day}
 use Rattle.calendar.proofs.Months.{to-year-more, year-most}
 
 -- a day d, by the changes m and o of its year, with its hours and how far ahead the clock is at its start

@@ -1,13 +1,13 @@
 -- What the tests of a date say: whether it is covered, whether it is a last Sunday, and so how many hours it has.
-use Prim.Native.Nat.{ℕ, _+_, _-_, _*_, _%_, _≤_, _<_}
+use Prim.Native.Nat.{ℕ, _+_, _-_, _≤_, _<_}
 use native.Mathlib.Omega.{arith}
-use mathlib.Core.Path.{_≡_, refl, sym, _∙_, subst}
-use mathlib.Core.Bool.{Bool, true, false, cond}
-use mathlib.Core.Logic.{_⊎_, inl, inr, ⊎-elim}
-use lib.Dec.{eqb, leb, ltb, lit≤}
+use mathlib.Core.Path.{_≡_, sym, subst}
+use mathlib.Core.Bool.{true, false}
+use mathlib.Core.Logic.{_⊎_, ⊎-elim}
+use lib.Dec.{lit≤}
 use Rattle.std.proofs.shelf.Tests.{cases-bool, cases-order, both-ways, and-parts, and-from, leb-true, le-leb, eqb-true, eq-eqb, ne-eqb, and-left, cond-both}
 use Rattle.calendar.specs.declared.Date.{Date}
-use Rattle.calendar.specs.Dates.{leapYear, monthDays, daysToYear, daysToMonth, dayNumber, dayOf, LastSunday, Covered}
+use Rattle.calendar.specs.Dates.{leapYear, monthDays, daysToYear, daysToMonth, LastSunday, Covered}
 use Rattle.calendar.specs.Clock.{lastSunday, covered, onLastSunday, hoursOf, DayHours}
 use Rattle.calendar.proofs.Months.{month-least, month-most, is-month}
 use Rattle.calendar.proofs.Sundays as sundays

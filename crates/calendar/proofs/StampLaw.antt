@@ -1,7 +1,7 @@
 -- The stamps of a day's positions: what the clock shows, there and back, and the marks.
-use Prim.Native.Nat.{ℕ, _+_, _-_, _*_, _≤_, _<_}
+use Prim.Native.Nat.{ℕ, _+_, _-_, _*_, _<_}
 use native.Mathlib.Omega.{arith}
-use mathlib.Core.Path.{_≡_, refl, sym, _∙_, ap, subst}
+use mathlib.Core.Path.{_≡_, refl, ap}
 use mathlib.Core.Logic.{_⊎_, inl, inr}
 use lib.IntN.{ℤ, pos, _+ℤ_, _-ℤ_}
 use Rattle.std.proofs.shelf.Signed.{ints}
@@ -11,8 +11,8 @@ use Rattle.std.specs.declared.option.Option.the-variants.{Some}
 use Rattle.calendar.specs.declared.Date.{Date}
 use Rattle.calendar.specs.declared.Mark.{Mark}
 use Rattle.calendar.specs.declared.Mark.the-variants.{Unmarked, A, B}
-use Rattle.calendar.specs.Dates.{dayOf, Covered}
-use Rattle.calendar.specs.Clock.{covered, onLastSunday, marchChange, octoberChange, hoursOf, startAhead, aheadIn, aheadAt, startAt}
+use Rattle.calendar.specs.Dates.{dayOf}
+use Rattle.calendar.specs.Clock.{covered, onLastSunday, marchChange, octoberChange, hoursOf, startAhead, aheadIn}
 use Rattle.calendar.specs.Stamps.{stampOf, positionOf, ThereAndBack, ClockShows, Marked}
 use Rattle.calendar.proofs.DayTests.{has-hours}
 use Rattle.calendar.proofs.ClockLaw.{Kind, early, march, summer, october, late, kind-of, ahead-law}

@@ -1,13 +1,13 @@
 -- Each day starts where the one before ended.
 use Prim.Native.Nat.{ℕ, _+_, _-_, _*_, _≤_, _<_}
 use native.Mathlib.Omega.{arith}
-use mathlib.Core.Path.{_≡_, refl, sym, _∙_, ap, subst}
-use mathlib.Core.Bool.{Bool, true, false}
-use mathlib.Core.Logic.{_⊎_, inl, inr, ⊎-elim}
+use mathlib.Core.Path.{_≡_, refl, _∙_, ap}
+use mathlib.Core.Bool.{Bool}
+use mathlib.Core.Logic.{_⊎_, ⊎-elim}
 use lib.IntN.{ℤ, pos, _+ℤ_, _-ℤ_}
 use Rattle.std.proofs.shelf.Signed.{ints}
 use Rattle.calendar.specs.declared.Date.{Date}
-use Rattle.calendar.specs.Dates.{leapYear, yearDays, monthDays, daysToYear, daysToMonth, dayNumber, dayOf, Covered, Next, NextDay, NextMonth, NextYear}
+use Rattle.calendar.specs.Dates.{leapYear, daysToYear, daysToMonth, dayOf, Covered, NextDay, NextMonth, NextYear}
 use Rattle.calendar.specs.Clock.{marchChange, octoberChange, hoursOf, startAhead, startOf, StartsInTurn}
 use Rattle.calendar.proofs.Months.{to-month-more, to-year-more}
 use Rattle.calendar.proofs.Years.{year-least, changes, whole-year}

@@ -1,16 +1,16 @@
 -- Where months, years and the changes of the clock lie in the count of days.
-use Prim.Native.Nat.{ℕ, zero, suc, _+_, _-_, _*_, _≤_, _<_}
+use Prim.Native.Nat.{ℕ, zero, suc, _+_, _-_, _≤_, _<_}
 use native.Mathlib.Nat.{add-suc, add-zero, le-refl}
 use native.Mathlib.Omega.{arith}
-use mathlib.Core.Path.{_≡_, refl, sym, _∙_, ap, subst}
+use mathlib.Core.Path.{_≡_, refl, ap}
 use mathlib.Core.Bool.{Bool, true, false, cond}
-use mathlib.Core.Logic.{_⊎_, inl, inr, ⊎-elim}
+use mathlib.Core.Logic.{_⊎_, ⊎-elim}
 use Rattle.std.proofs.shelf.Tests.{cases-order}
 use Rattle.calendar.specs.declared.Date.{Date}
-use Rattle.calendar.specs.Dates.{leapYear, yearDays, monthLength, monthDays, daysToYear, daysToMonth, dayNumber, dayOf, Covered}
-use Rattle.calendar.specs.Clock.{lastSunday, marchChange, octoberChange}
+use Rattle.calendar.specs.Dates.{leapYear, yearDays, monthLength, daysToYear, daysToMonth, dayOf, Covered}
+use Rattle.calendar.specs.Clock.{marchChange, octoberChange}
 use Rattle.calendar.proofs.Months.{to-month-more, to-year-more}
-use Rattle.calendar.proofs.DayTests.{Bounds, bounds, last-sunday-is}
+use Rattle.calendar.proofs.DayTests.{bounds, last-sunday-is}
 
 months-later : (b : Bool) (m k : ℕ) → daysToMonth b m ≤ daysToMonth b (m + k)
 unfolding daysToMonth

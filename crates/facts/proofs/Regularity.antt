@@ -1,9 +1,9 @@
 -- The facts of a sound hour are regular.
-use mathlib.Core.Bool.{Bool, true, false}
+use mathlib.Core.Bool.{true}
 use mathlib.Core.List.{List}
 use mathlib.Core.Logic.{⊎-elim}
-use mathlib.Core.Path.{_≡_, refl, sym, ap, subst, _∙_}
-use Prim.Native.Nat.{ℕ, _*_, _≤_, _<_, min}
+use mathlib.Core.Path.{_≡_, refl, sym, subst}
+use Prim.Native.Nat.{ℕ, _≤_, _<_, min}
 use native.Mathlib.Omega.{arith}
 use lib.IntN.{ℤ, pos, _-ℤ_}
 use lib.ListN.{length, getD}
@@ -23,7 +23,7 @@ use Rattle.market.specs.declared.words.Bid.{Bid}
 use Rattle.market.specs.declared.words.Direction.{Direction}
 use Rattle.market.specs.declared.words.Direction.the-variants.{Up, Down}
 use Rattle.market.specs.Figures.{priceLimit}
-use Rattle.market.specs.Words.{energyOf, minutesOf, noActivation, noBid}
+use Rattle.market.specs.Words.{energyOf, minutesOf, noActivation}
 use Rattle.market.proofs.EnergyLaws.{lawful}
 use Rattle.ladder.specs.Standing.{Extreme, NoLower, NoHigher}
 use Rattle.register.specs.Totals.{adds, listed, sameDirection, listedEnergy, greatestTotal, Supplement}

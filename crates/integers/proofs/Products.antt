@@ -1,9 +1,9 @@
 -- Products of whole numbers: they distribute over sums, and keep an order.
 use Prim.Native.Nat.{ℕ, zero, suc, _*_, _≤_}
 use native.Mathlib.Omega.{arith}
-use mathlib.Core.Path.{_≡_, refl, sym, ap, subst, _∙_}
-use lib.IntN.{ℤ, pos, negsuc, sucℤ, predℤ, negℤ, _+ℤ_, _-ℤ_, _*ℤ_, +ℤ-sucℤ, +ℤ-predℤ, +ℤ-idr, sucℤ-*ℤ, predℤ-*ℤ, zero-*ℤ, *ℤ-zero, *ℤ-comm, pos-*ℤ-pos}
-use lib.Signed.{_≤ℤ_, leZ-yes}
+use mathlib.Core.Path.{_≡_, sym, ap, subst, _∙_}
+use lib.IntN.{ℤ, pos, negsuc, negℤ, _+ℤ_, _-ℤ_, _*ℤ_, +ℤ-sucℤ, +ℤ-predℤ, +ℤ-idr, sucℤ-*ℤ, predℤ-*ℤ, zero-*ℤ, *ℤ-zero, *ℤ-comm, pos-*ℤ-pos}
+use lib.Signed.{_≤ℤ_}
 use Rattle.std.proofs.shelf.Signed.{ints}
 
 step-up : (u v w c g : ℤ) → u ≡ v +ℤ w → g ≡ w +ℤ c → u +ℤ c ≡ v +ℤ g

@@ -1,9 +1,9 @@
 -- What every run of lawful calls keeps.
 use Prim.Native.Nat.{ℕ, _+_, _≤_, _<_}
 use native.Mathlib.Omega.{arith}
-use mathlib.Core.Bool.{Bool, true, false, cond}
+use mathlib.Core.Bool.{Bool}
 use mathlib.Core.List.{List, [], _∷_}
-use mathlib.Core.Path.{_≡_, refl, sym, ap, subst, _∙_}
+use mathlib.Core.Path.{_≡_, refl, sym, subst, _∙_}
 use mathlib.Core.Logic.{_⊎_, inl, inr, ⊎-elim}
 use lib.Dec.{eqb}
 use lib.ListN.{length}
@@ -16,19 +16,19 @@ use Rattle.ordered.proofs.Lexical.{lex-order}
 use Rattle.ordered.proofs.Placed.{all-placed}
 use Rattle.market.specs.declared.words.Activation.{Activation}
 use Rattle.market.specs.declared.words.Bid.{Bid}
-use Rattle.market.specs.declared.words.Kind.the-variants.{Listed, Special as SpecialKind}
+use Rattle.market.specs.declared.words.Kind.the-variants.{Listed}
 use Rattle.market.specs.Figures.{leastBidVolume, priceLimit}
 use Rattle.market.specs.Order.{activationKey}
-use Rattle.ladder.specs.Ladder.{StandingBids, AllBids, withHeld, dropped}
+use Rattle.ladder.specs.Ladder.{AllBids, withHeld}
 use Rattle.ladder.proofs.Keeps.{all-none, all-added, all-dropped, all-marked, with-receipt}
 use Rattle.register.specs.Registered.{arrived, withActivation}
 use Rattle.pricing.specs.declared.Facts.{Facts}
 use Rattle.pricing.specs.declared.Prices.{Prices}
 use Rattle.pricing.specs.Policies.{ShowsRules, Within}
 use Rattle.facts.specs.Sound.{OnItsSide, SoundActivation}
-use Rattle.ledger.specs.Figures.{Stage, Planned, Running, Metered, Opening, Figures, opened}
-use Rattle.ledger.specs.Journal.{Entry, Journal, Meter, Produced, Consumed, Entered, Plan, Notice, Clock, Start, BidAccepted, Withdrawn, Hold, Activated, Special, Finish, Reading, Settled, at, listedOf, withTaken, after, figures}
-use Rattle.ledger.specs.Lawful.{LawfulOpening, SoundOffer, Takes, Lawful, LawfulJournal}
+use Rattle.ledger.specs.Figures.{Stage, Planned, Running, Metered, Opening, Figures}
+use Rattle.ledger.specs.Journal.{Entry, Journal, Produced, Consumed, Entered, Plan, Notice, Clock, Start, BidAccepted, Withdrawn, Hold, Activated, Special, Finish, Reading, Settled, at, listedOf, withTaken, after, figures}
+use Rattle.ledger.specs.Lawful.{LawfulOpening, Takes, Lawful, LawfulJournal}
 
 pub record BidSound (opening : Opening) (n : ℕ) (b : Bid) : Type 0 where
   pub in-day : b .hour .0 < opening .hours

@@ -1,14 +1,12 @@
 -- The three sums, over every run of lawful calls.
 use Prim.Native.Nat.{ℕ, _<_}
 use native.Mathlib.Omega.{arith}
-use mathlib.Core.Bool.{Bool, true, false, cond, _&&_, _||_}
+use mathlib.Core.Bool.{true, false}
 use mathlib.Core.List.{List, [], _∷_}
 use mathlib.Core.Path.{_≡_, refl, sym, ap, subst, _∙_}
 use mathlib.Core.Logic.{⊎-elim}
-use lib.Dec.{eqb}
-use lib.IntN.{ℤ, pos, negℤ, _+ℤ_}
-use lib.Signed.{_≤ℤ_}
-use lib.ListN.{length, getD}
+use lib.IntN.{pos, negℤ}
+use lib.ListN.{getD}
 use Rattle.std.specs.shelf.Lists.{All}
 use Rattle.std.proofs.shelf.Elements.{all-weaker, all-getD}
 use Rattle.std.proofs.shelf.Tests.{and-parts, cases-bool, eqb-true, or-from}
@@ -16,34 +14,31 @@ use Rattle.std.specs.declared.option.Option.{Option}
 use Rattle.std.specs.declared.option.Option.the-variants.{Some, None}
 use Rattle.units.specs.declared.Price.{Price}
 use Rattle.market.specs.declared.words.Activation.{Activation}
-use Rattle.market.specs.declared.words.Bid.{Bid}
 use Rattle.market.specs.declared.words.Direction.{Direction}
 use Rattle.market.specs.declared.words.Direction.the-variants.{Up, Down}
 use Rattle.market.specs.declared.words.Kind.{Kind}
 use Rattle.market.specs.declared.words.Kind.the-variants.{Listed, Special as SpecialKind}
-use Rattle.market.specs.Figures.{priceLimit, priceSettingMinutes}
+use Rattle.market.specs.Figures.{priceSettingMinutes}
 use Rattle.market.specs.Words.{noActivation, noBid}
-use Rattle.ladder.specs.Standing.{OfHour}
 use Rattle.register.specs.Totals.{ofHour, isListed, listed, sameDirection}
 use Rattle.pricing.specs.declared.Facts.{Facts}
 use Rattle.pricing.specs.declared.Prices.{Prices}
-use Rattle.pricing.specs.Policies.{ShowsRules, Regular, Within, AroundPrice}
+use Rattle.pricing.specs.Policies.{Regular, AroundPrice}
 use Rattle.facts.specs.Listed.{listedIn, anyOf, went}
-use Rattle.facts.specs.Sound.{SoundActivation, BidsWithin, Sound}
+use Rattle.facts.specs.Sound.{SoundActivation, Sound}
 use Rattle.facts.proofs.Reckoned.{regular-reckoned}
-use Rattle.settlement.specs.Hour.{Hour, OwnActivations}
-use Rattle.settlement.specs.HourLaws.{Balanced, OneWay}
-use Rattle.settlement.specs.Payments.{directionPrice, gain}
+use Rattle.settlement.specs.Hour.{OwnActivations}
+use Rattle.settlement.specs.HourLaws.{OneWay}
+use Rattle.settlement.specs.Payments.{directionPrice}
 use Rattle.settlement.proofs.EnergyLaw.{energy-sums}
 use Rattle.settlement.proofs.MoneyLaw.{money-sums}
 use Rattle.settlement.proofs.BalancedLaw.{never-costs}
 use Rattle.integers.specs.Sums.{sumTo}
 use Rattle.integers.proofs.Sums.{sumTo-same, sumTo-none, sumTo-neg, sumTo-swap}
-use Rattle.ledger.specs.Figures.{Opening, Figures}
-use Rattle.ledger.specs.Journal.{Journal, figures}
+use Rattle.ledger.specs.Figures.{Figures}
+use Rattle.ledger.specs.Journal.{figures}
 use Rattle.ledger.specs.Reckoned.{position, hourAt, factsAt, dueToParty, taken, ifSettled, settledAt, account, operatorAccount}
-use Rattle.ledger.specs.Lawful.{LawfulJournal}
-use Rattle.ledger.specs.Sums.{ThreeSums, TheThreeSums}
+use Rattle.ledger.specs.Sums.{TheThreeSums}
 use Rattle.ledger.proofs.Kept.{BidSound, ActivationSound, Kept, kept}
 use Rattle.ledger.proofs.Accounts.{booked-sum}
 

@@ -1,8 +1,7 @@
 -- The sample day, computed.
-use Prim.Native.Nat.{ℕ}
 use native.Mathlib.Omega.{arith}
-use mathlib.Core.Path.{_≡_, refl}
-use mathlib.Core.Logic.{inl, inr}
+use mathlib.Core.Path.{refl}
+use mathlib.Core.Logic.{inl}
 use lib.Dec.{lit<, lit≤}
 use Rattle.std.proofs.shelf.Signed.{ints}
 use Rattle.market.specs.Energy.{energy}

@@ -16,7 +16,7 @@ use Rattle.ladder.specs.Ladder.{StandingBids, added, dropped, marked, standingW
 use Rattle.register.specs.Registered.{withActivation}
 use Rattle.pricing.specs.declared.Facts.{Facts}
 use Rattle.pricing.specs.declared.Prices.{Prices}
-use Rattle.ledger.specs.Figures.{Stage, Planned, Running, Metered, Opening, Figures, opened}
+use Rattle.ledger.specs.Figures.{Stage, Running, Metered, Opening, Figures, opened}
 
 pub data Meter : Type 0 where
   Produced : Meter

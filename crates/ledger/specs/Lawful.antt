@@ -1,10 +1,9 @@
 -- What the acceptance of a call guarantees.
-use Prim.Native.Nat.{ℕ, _+_, _≤_, _<_}
-use mathlib.Core.List.{List, [], _∷_}
+use Prim.Native.Nat.{ℕ, _≤_, _<_}
+use mathlib.Core.List.{[], _∷_}
 use mathlib.Core.Logic.{_⊎_}
 use mathlib.Core.Path.{_≡_}
 use Rattle.std.specs.declared.option.Option.the-variants.{Some, None}
-use Rattle.market.specs.declared.words.Activation.{Activation}
 use Rattle.market.specs.declared.words.Bid.{Bid}
 use Rattle.market.specs.declared.words.Kind.the-variants.{Special as SpecialKind}
 use Rattle.market.specs.Figures.{leastBidVolume, priceLimit}

@@ -1,7 +1,7 @@
 -- What follows from the figures of a day: the facts of an hour, what is due to a party, and what the operator takes.
 use Prim.Native.Nat.{ℕ}
 use lib.IntN.{ℤ, pos, _+ℤ_}
-use mathlib.Core.List.{List, [], _∷_}
+use mathlib.Core.List.{[], _∷_}
 use Rattle.std.specs.Options.{valueOr}
 use Rattle.std.specs.declared.option.Option.{Option}
 use Rattle.std.specs.declared.option.Option.the-variants.{Some, None}
@@ -12,7 +12,6 @@ use Rattle.pricing.specs.declared.Prices.{Prices}
 use Rattle.facts.specs.Facts.{factsOf}
 use Rattle.settlement.specs.Hour.{Hour}
 use Rattle.settlement.specs.Payments.{dueTo, operatorTakes}
-use Rattle.integers.specs.Sums.{sumTo}
 use Rattle.ledger.specs.Figures.{Opening, Figures}
 use Rattle.ledger.specs.Journal.{Entry, Journal, Entered, Plan, Notice, Clock, Start, BidAccepted, Withdrawn, Hold, Activated, Special, Finish, Reading, Settled, figures}
 

@@ -1,9 +1,8 @@
 -- The sample day: a party that produces, one that consumes, and one activation.
-use Prim.Native.Nat.{ℕ}
 use mathlib.Core.Bool.{true}
-use mathlib.Core.List.{List, [], _∷_}
+use mathlib.Core.List.{[], _∷_}
 use mathlib.Core.Path.{_≡_}
-use lib.IntN.{ℤ, pos, negℤ}
+use lib.IntN.{pos, negℤ}
 use Rattle.std.specs.declared.option.Option.the-variants.{Some}
 use Rattle.market.specs.declared.words.Direction.the-variants.{Up}
 use Rattle.market.specs.declared.words.Portfolio.the-variants.{Production}

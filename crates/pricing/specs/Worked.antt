@@ -4,7 +4,6 @@ use mathlib.Core.List.{List, [], _∷_}
 use lib.IntN.{ℤ, pos, negℤ}
 use Rattle.units.specs.declared.Price.{Price}
 use Rattle.pricing.specs.declared.Facts.{Facts}
-use Rattle.pricing.specs.declared.Prices.{Prices}
 use Rattle.pricing.specs.declared.PricedHour.{PricedHour}
 use Rattle.pricing.specs.Policies.{four}
 

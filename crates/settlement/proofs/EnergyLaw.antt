@@ -1,13 +1,13 @@
 -- The imbalances of an hour sum to what the meters, the outside and the activations leave.
 use Prim.Native.Nat.{ℕ}
 use native.Mathlib.Omega.{arith}
-use mathlib.Core.Path.{_≡_, refl, sym, ap, _∙_}
-use lib.IntN.{ℤ, pos, negℤ, _+ℤ_, _-ℤ_}
+use mathlib.Core.Path.{_≡_, ap, _∙_}
+use lib.IntN.{ℤ, _+ℤ_, _-ℤ_}
 use Rattle.std.proofs.shelf.Signed.{ints}
 use Rattle.market.specs.declared.words.Portfolio.the-variants.{Production, ConsumptionAndTrade}
 use Rattle.integers.specs.Sums.{sumTo}
 use Rattle.integers.proofs.Sums.{sumTo-same, sumTo-add, sumTo-sub}
-use Rattle.settlement.specs.Hour.{Hour, trade, supplement, productionImbalance, consumptionImbalance, meteredProduction, meteredConsumption, netOutsidePurchases, netActivated, OwnActivations}
+use Rattle.settlement.specs.Hour.{Hour, trade, supplement, netOutsidePurchases, OwnActivations}
 use Rattle.settlement.specs.HourLaws.{EnergySums}
 use Rattle.settlement.proofs.Trade.{trades-cancel}
 use Rattle.settlement.proofs.Supplements.{supplements-sum}

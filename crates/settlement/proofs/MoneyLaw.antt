@@ -2,24 +2,21 @@
 use Prim.Native.Nat.{ℕ, _<_}
 use native.Mathlib.Omega.{arith}
 use mathlib.Core.Bool.{Bool, true, false, cond, _&&_}
-use mathlib.Core.List.{List}
-use mathlib.Core.Path.{_≡_, refl, sym, ap, _∙_}
+use mathlib.Core.Path.{_≡_, refl, ap, _∙_}
 use mathlib.Core.Logic.{⊎-elim}
 use lib.Dec.{eqb}
 use lib.IntN.{ℤ, pos, negℤ, _+ℤ_, _-ℤ_, _*ℤ_}
-use Rattle.std.specs.shelf.Lists.{All}
 use Rattle.std.proofs.shelf.Signed.{ints}
 use Rattle.std.proofs.shelf.Elements.{all-weaker}
 use Rattle.std.proofs.shelf.Tests.{cases-bool}
 use Rattle.market.specs.declared.words.Activation.{Activation}
 use Rattle.pricing.specs.declared.Facts.{Facts}
-use Rattle.pricing.specs.declared.PricePair.{PricePair}
 use Rattle.pricing.specs.declared.Prices.{Prices}
 use Rattle.register.specs.Totals.{ofHour}
-use Rattle.integers.specs.Sums.{sumTo, sumOver}
+use Rattle.integers.specs.Sums.{sumTo}
 use Rattle.integers.proofs.Sums.{sumTo-same, sumTo-none, sumTo-add, sumTo-sub, sumTo-only, sumOver-same, sumOver-swap}
 use Rattle.settlement.specs.Hour.{Hour, productionImbalance, consumptionImbalance, OwnActivations}
-use Rattle.settlement.specs.Payments.{surplus, shortfall, priced, payment, regulation, regulationTo, dueTo, pricedSurplus, pricedShortfall}
+use Rattle.settlement.specs.Payments.{surplus, shortfall, priced, payment, regulation, regulationTo, pricedSurplus, pricedShortfall}
 use Rattle.settlement.specs.HourLaws.{MoneySums}
 
 regroup : (a b c d : ℤ) → (a -ℤ b) +ℤ (c -ℤ d) ≡ (a +ℤ c) -ℤ (b +ℤ d)

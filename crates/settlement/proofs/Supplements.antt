@@ -6,14 +6,12 @@ use mathlib.Core.List.{List, [], _∷_}
 use mathlib.Core.Path.{_≡_, refl, sym, ap, _∙_}
 use mathlib.Core.Logic.{⊎-elim}
 use lib.Dec.{eqb}
-use lib.IntN.{ℤ, pos, negℤ, _+ℤ_, _-ℤ_}
-use Rattle.std.specs.shelf.Lists.{All, sumBy}
+use lib.IntN.{ℤ, pos, _+ℤ_, _-ℤ_}
+use Rattle.std.specs.shelf.Lists.{sumBy}
 use Rattle.std.proofs.shelf.Signed.{ints}
 use Rattle.std.proofs.shelf.Elements.{all-weaker}
 use Rattle.std.proofs.shelf.Sums.{sumBy-cons}
-use Rattle.std.proofs.shelf.Tests.{cases-bool, cond-true, cond-false}
-use Rattle.units.specs.declared.Position.{Position}
-use Rattle.units.specs.declared.Party.{Party}
+use Rattle.std.proofs.shelf.Tests.{cases-bool}
 use Rattle.market.specs.declared.words.Activation.{Activation}
 use Rattle.market.specs.declared.words.Direction.{Direction}
 use Rattle.market.specs.declared.words.Direction.the-variants.{Up, Down}
@@ -22,7 +20,7 @@ use Rattle.market.specs.declared.words.Portfolio.the-variants.{Production, Cons
 use Rattle.market.specs.Words.{energyOf}
 use Rattle.register.specs.Totals.{ofHour, ofAccount, samePortfolio, sameDirection, adds}
 use Rattle.integers.specs.Sums.{sumTo, sumOver}
-use Rattle.integers.proofs.Sums.{sumTo-same, sumTo-none, sumTo-add, sumTo-only, sumOver-add, sumOver-same, sumOver-swap}
+use Rattle.integers.proofs.Sums.{sumTo-same, sumTo-none, sumTo-only, sumOver-add, sumOver-same, sumOver-swap}
 use Rattle.settlement.specs.Hour.{Hour, supplement, netActivated, OwnActivations}
 
 one-more : (a b c d : ℕ) (s : ℤ) → pos c -ℤ pos d ≡ s → pos (a + c) -ℤ pos (b + d) ≡ (pos a -ℤ pos b) +ℤ s

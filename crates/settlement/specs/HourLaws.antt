@@ -5,16 +5,14 @@ use mathlib.Core.Path.{_≡_}
 use lib.IntN.{ℤ, pos, negℤ, _+ℤ_, _-ℤ_}
 use lib.Signed.{_≤ℤ_}
 use Rattle.std.specs.shelf.Lists.{All}
-use Rattle.market.specs.declared.words.Activation.{Activation}
 use Rattle.market.specs.declared.words.Direction.{Direction}
 use Rattle.market.specs.declared.words.Kind.the-variants.{Listed}
 use Rattle.pricing.specs.declared.Facts.{Facts}
 use Rattle.pricing.specs.declared.Prices.{Prices}
-use Rattle.pricing.specs.Policies.{AroundPrice}
 use Rattle.register.specs.Totals.{ofHour}
 use Rattle.integers.specs.Sums.{sumTo}
-use Rattle.settlement.specs.Hour.{Hour, productionImbalance, consumptionImbalance, meteredProduction, meteredConsumption, netOutsidePurchases, netActivated, OwnActivations}
-use Rattle.settlement.specs.Payments.{directionPrice, dueTo, operatorTakes, gain}
+use Rattle.settlement.specs.Hour.{Hour, productionImbalance, consumptionImbalance, meteredProduction, meteredConsumption, netOutsidePurchases, netActivated}
+use Rattle.settlement.specs.Payments.{dueTo, operatorTakes, gain}
 
 -- (a) the imbalances sum to metered production less consumption, plus net outside purchases, less net activated energy
 abbrev pub EnergySums : Hour → Type 0

@@ -1,4 +1,3 @@
-use mathlib.Core.Path.{_≡_}
 use native.Mathlib.Omega.{arith}
 use Rattle.refusal.specs.declared.Refusal.the-variants.{NotInDay}
 use Rattle.calendar.specs.Clock.{hoursOf, aheadAt}

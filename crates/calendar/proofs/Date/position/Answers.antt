@@ -1,4 +1,4 @@
-use mathlib.Core.Path.{_≡_, _∙_, ap}
+use mathlib.Core.Path.{_∙_, ap}
 use Rattle.calendar.specs.Stamps.{inDay}
 use Rattle.calendar.proofs.StampLaw.{there-and-back}
 use Rattle.calendar.proofs.Date.position.Needs as need

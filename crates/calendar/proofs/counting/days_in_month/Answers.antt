@@ -1,5 +1,3 @@
-use mathlib.Core.Path.{_≡_, sym}
-use Rattle.calendar.specs.Dates.{leapYear, monthDays}
 use Rattle.calendar.proofs.counting.days_in_month.Needs as need
 
 pub returns-then-is-leap : need.returns-then-is-leap

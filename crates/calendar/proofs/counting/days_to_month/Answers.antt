@@ -1,5 +1,4 @@
-use Prim.Native.Nat.{ℕ}
-use mathlib.Core.Path.{_≡_, refl}
+use mathlib.Core.Path.{refl}
 use native.Mathlib.Omega.{arith}
 use Rattle.calendar.specs.Dates.{leapYear, daysToMonth}
 use Rattle.calendar.proofs.Months.{month-most, to-month-more}

@@ -1,7 +1,6 @@
-use Prim.Native.Nat.{ℕ}
-use mathlib.Core.Path.{_≡_, refl}
+use mathlib.Core.Path.{refl}
 use native.Mathlib.Omega.{arith}
-use Rattle.calendar.specs.Dates.{leapYear, daysToYear}
+use Rattle.calendar.specs.Dates.{daysToYear}
 use Rattle.calendar.proofs.Months.{year-most, to-year-more}
 use Rattle.calendar.proofs.counting.days_to_year.Needs as need
 

@@ -1,4 +1,3 @@
-use mathlib.Core.Path.{_≡_}
 use native.Mathlib.Omega.{arith}
 use Rattle.calendar.specs.Dates.{leapYear}
 use Rattle.calendar.proofs.Months.{month-least, month-most}

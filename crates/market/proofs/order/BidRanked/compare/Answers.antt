@@ -3,7 +3,6 @@ use borrow.Author.Needs.{needs}
 use mir.Syntax.{w64}
 use mir.Val.{SFits, ofZ, toZ}
 use Rattle.std.proofs.shelf.Signed.{toZ-ofZ}
-use Rattle.std.specs.Orderings.{Ranked as ByAnswer}
 use Rattle.ordered.proofs.Lexical.{ComparesZ, lex-last, lex-then, unsigned}
 use Rattle.market.specs.Order.{directionKey, priceKey}
 use Rattle.market.proofs.order.BidRanked.compare.Needs as need
