@@ -26,7 +26,8 @@ use Rattle.market.specs.Figures.{priceLimit}
 use Rattle.market.specs.Words.{energyOf, minutesOf, noActivation}
 use Rattle.market.proofs.EnergyLaws.{lawful}
 use Rattle.ladder.specs.Standing.{Extreme, NoLower, NoHigher}
-use Rattle.register.specs.Totals.{adds, listed, sameDirection, listedEnergy, greatestTotal, Supplement}
+use Rattle.register.specs.Totals.{adds, listed, listedEnergy, greatestTotal, Supplement}
+use Rattle.market.specs.Words.{sameDirection}
 use Rattle.pricing.specs.declared.Facts.{Facts}
 use Rattle.pricing.specs.Policies.{NotAbove, Within, Regular}
 use Rattle.facts.specs.Listed.{listedIn, SomeOf}

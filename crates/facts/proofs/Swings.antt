@@ -13,12 +13,12 @@ use Rattle.units.specs.declared.Position.{Position}
 use Rattle.market.specs.declared.words.Activation.{Activation}
 use Rattle.market.specs.declared.words.Direction.the-variants.{Up, Down}
 use Rattle.market.specs.Words.{noActivation}
-use Rattle.register.specs.Totals.{Short}
+use Rattle.register.specs.Totals.{Few}
 use Rattle.facts.specs.Minutes.{powerOf, power, delta}
 
 -- z is the delta of the first n activations, each of which has a power below 2^32
 pub record Running (hour : Position) (minute : ℕ) (activations : List Activation) (n : ℕ) (z : ℤ) : Type 0 where
-  pub sum : Short activations → z ≡ delta hour (take n activations) minute
+  pub sum : Few activations → z ≡ delta hour (take n activations) minute
   pub up : power hour Up minute (take n activations) ≤ n * (2 ^ 32 - 1)
   pub down : power hour Down minute (take n activations) ≤ n * (2 ^ 32 - 1)
 
@@ -45,6 +45,6 @@ module _ (hour : Position) (minute : ℕ) (activations : List Activation) (n : �
         down = omega arith;
       }
 
-pub running-all : (hour : Position) (minute : ℕ) (activations : List Activation) (n : ℕ) (z : ℤ) → Running hour minute activations n z → length activations ≤ n → Short activations → z ≡ delta hour activations minute
+pub running-all : (hour : Position) (minute : ℕ) (activations : List Activation) (n : ℕ) (z : ℤ) → Running hour minute activations n z → length activations ≤ n → Few activations → z ≡ delta hour activations minute
 running-all hour minute activations n z run past short =
     run .sum short ∙ ap (λ xs. delta hour xs minute) (take-all n activations past)

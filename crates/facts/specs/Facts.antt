@@ -11,7 +11,7 @@ use Rattle.units.specs.declared.Price.{Price}
 use Rattle.market.specs.declared.words.Activation.{Activation}
 use Rattle.market.specs.declared.words.Bid.{Bid}
 use Rattle.market.specs.declared.words.Direction.the-variants.{Up, Down}
-use Rattle.register.specs.Totals.{Short, Supplement, listed, listedEnergy}
+use Rattle.register.specs.Totals.{Few, Supplement, listed, listedEnergy}
 use Rattle.pricing.specs.declared.Facts.{Facts}
 use Rattle.facts.specs.Listed.{listedIn, wentUp, wentDown, SomeOf}
 use Rattle.facts.specs.Prices.{setsPrice, upPrice, downPrice, GreatestOrSpot, LeastOrSpot}
@@ -50,7 +50,7 @@ pub record Told (minutes : ℕ) (spot : Price) (hour : Position) (activations : 
   pub down-price : LeastOrSpot (setsPrice minutes hour Down) spot activations (f .«down_price»)
   pub middle-price : Halfway spot hour ups downs (f .middle)
   pub net : Supplement activations (listedEnergy hour Up activations) (listedEnergy hour Down activations) (f .«net_energy» .0)
-  pub rises : Short activations → Decides (f .rose) (Rose hour activations)
-  pub falls : Short activations → Decides (f .fell) (Fell hour activations)
+  pub rises : Few activations → Decides (f .rose) (Rose hour activations)
+  pub falls : Few activations → Decides (f .fell) (Fell hour activations)
   pub upward : Decides (f .«went_up») (SomeOf (listedIn hour Up) activations (length activations))
   pub downward : Decides (f .«went_down») (SomeOf (listedIn hour Down) activations (length activations))

@@ -9,7 +9,8 @@ use Rattle.market.specs.declared.words.Activation.{Activation}
 use Rattle.market.specs.declared.words.Direction.{Direction}
 use Rattle.market.specs.declared.words.Direction.the-variants.{Up, Down}
 use Rattle.market.specs.Words.{noActivation}
-use Rattle.register.specs.Totals.{listed, sameDirection}
+use Rattle.register.specs.Totals.{listed}
+use Rattle.market.specs.Words.{sameDirection}
 
 -- listed, of the hour, and of that direction
 abbrev pub listedIn : Position → Direction → Activation → Bool

@@ -1,4 +1,4 @@
--- The hours that the guide works out by hand.
+-- The hours that docs/facts.md works out by hand.
 use mathlib.Core.Bool.{Bool, true, false}
 use mathlib.Core.List.{List, [], _∷_}
 use Prim.Native.Nat.{ℕ}
@@ -60,14 +60,14 @@ abbrev pub factsWith : List Activation → Facts
 factsWith activations = factsOf priceSettingMinutes (cents (pos 3_000)) seventh activations [] []
 
 -- the facts with no activations, between an upward and a downward bid
-abbrev pub factsBetween : Price → Price → Facts
-factsBetween up down = factsOf priceSettingMinutes (cents (pos 3_000)) seventh [] (bid 1 Up up ∷ []) (bid 2 Down down ∷ [])
+abbrev pub factsBetween : Price → Price → Price → Facts
+factsBetween spot up down = factsOf priceSettingMinutes spot seventh [] (bid 1 Up up ∷ []) (bid 2 Down down ∷ [])
 
--- up price, down price, middle; net energy; rose, fell; went up, went down. Spot is 3,000 in all of them.
-abbrev hour : ℤ → ℤ → ℤ → ℤ → Bool → Bool → Bool → Bool → Facts
-hour up down middle net rose fell up? down? =
+-- spot, up price, down price, middle; net energy; rose, fell; went up, went down
+abbrev hourAt : ℤ → ℤ → ℤ → ℤ → ℤ → Bool → Bool → Bool → Bool → Facts
+hourAt spot up down middle net rose fell up? down? =
     record {
-      spot = cents (pos 3_000);
+      spot = cents spot;
       «up_price» = cents up;
       «down_price» = cents down;
       middle = cents middle;
@@ -78,10 +78,13 @@ hour up down middle net rose fell up? down? =
       «went_down» = down?;
     }
 
+abbrev hour : ℤ → ℤ → ℤ → ℤ → Bool → Bool → Bool → Bool → Facts
+hour = hourAt (pos 3_000)
+
 abbrev pub workedHours : List Facts
 workedHours =
-    -- nothing is listed; an upward bid at -1 and a downward one at -2 stand
-    hour (pos 3_000) (pos 3_000) (negℤ (pos 2)) (pos 0) false false false false
+    -- spot is -1, and nothing is listed; an upward bid at -1 and a downward one at -2 stand
+    hourAt (negℤ (pos 1)) (negℤ (pos 1)) (negℤ (pos 1)) (negℤ (pos 2)) (pos 0) false false false false
     -- upward in minutes 20 to 30
     ∷ hour (pos 3_500) (pos 3_000) (pos 3_000) (pos 1_000) true true true false
     -- upward in minutes 20 to 29, too short to set a price

@@ -1,6 +1,6 @@
 // The facts of an hour: what a pricing policy looks at, from its spot price, listed activations and standing bids.
 ghost use mathlib.Core.Path.{_≡_};
-ghost use Rattle.register.specs.Totals.{Short};
+ghost use Rattle.register.specs.Totals.{Few};
 ghost use Rattle.pricing.specs.Policies.{Regular};
 ghost use Rattle.facts.specs.Facts.{factsOf, factsAlone, Told};
 ghost use Rattle.facts.specs.Sound.{Sound};
@@ -31,8 +31,8 @@ pub fn facts_of(
     ups: &[Bid],
     downs: &[Bid],
 ) -> Facts
-    ensures exact { λ r. ⌜ (Short (now (activations .entry)) → r ≡ factsOf minutes spot hour (now (activations .entry)) (now (ups .entry)) (now (downs .entry))) ⌝ }
-    ensures alone { λ r. ⌜ (Short (now (activations .entry)) → r ≡ factsAlone minutes spot hour (now (activations .entry)) (now (ups .entry)) (now (downs .entry))) ⌝ }
+    ensures exact { λ r. ⌜ (Few (now (activations .entry)) → r ≡ factsOf minutes spot hour (now (activations .entry)) (now (ups .entry)) (now (downs .entry))) ⌝ }
+    ensures alone { λ r. ⌜ (Few (now (activations .entry)) → r ≡ factsAlone minutes spot hour (now (activations .entry)) (now (ups .entry)) (now (downs .entry))) ⌝ }
     ensures told { λ r. ⌜ Told minutes spot hour (now (activations .entry)) (now (ups .entry)) (now (downs .entry)) r ⌝ }
     ensures regular { λ r. ⌜ (Sound spot hour (now (activations .entry)) (now (ups .entry)) (now (downs .entry)) → Regular r) ⌝ }
 {

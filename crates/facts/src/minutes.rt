@@ -3,7 +3,7 @@ ghost use mathlib.Core.Path.{_≡_};
 ghost use Prim.Native.Nat.{_^_, _<_};
 ghost use lib.IntN.{pos, _-ℤ_};
 ghost use Rattle.std.specs.Orderings.{Decides};
-ghost use Rattle.register.specs.Totals.{Short};
+ghost use Rattle.register.specs.Totals.{Few};
 ghost use Rattle.market.specs.declared.words.Direction.the-variants.{Up, Down};
 ghost use Rattle.facts.specs.Minutes.{activeIn, powerOf, delta, rose, fell, Rose, Fell};
 use crate::listed::is_listed;
@@ -38,7 +38,7 @@ fn swing(activation: &Activation, hour: Position, minute: u8) -> i64
 
 // The balance delta of the minute, exact for all but slices beyond any day's length.
 pub fn delta(activations: &[Activation], hour: Position, minute: u8) -> i64
-    ensures { λ r. ⌜ (Short (now (activations .entry)) → r ≡ delta hour (now (activations .entry)) minute) ⌝ }
+    ensures { λ r. ⌜ (Few (now (activations .entry)) → r ≡ delta hour (now (activations .entry)) minute) ⌝ }
 {
     let mut sum = 0i64;
     for activation in activations {
@@ -49,8 +49,8 @@ pub fn delta(activations: &[Activation], hour: Position, minute: u8) -> i64
 
 // Whether the delta of some minute is above, and of some below, that of the minute before.
 pub fn rose_and_fell(activations: &[Activation], hour: Position) -> (bool, bool)
-    ensures value { λ r. ⌜ (Short (now (activations .entry)) → r ≡ (rose hour (now (activations .entry)), fell hour (now (activations .entry)))) ⌝ }
-    ensures reading { λ r. ⌜ (Short (now (activations .entry)) → Decides (r .0) (Rose hour (now (activations .entry))) × Decides (r .1) (Fell hour (now (activations .entry)))) ⌝ }
+    ensures value { λ r. ⌜ (Few (now (activations .entry)) → r ≡ (rose hour (now (activations .entry)), fell hour (now (activations .entry)))) ⌝ }
+    ensures reading { λ r. ⌜ (Few (now (activations .entry)) → Decides (r .0) (Rose hour (now (activations .entry))) × Decides (r .1) (Fell hour (now (activations .entry)))) ⌝ }
 {
     let mut rose = false;
     let mut fell = false;

@@ -1,4 +1,4 @@
-// Hours that the guide works out by hand.
+// Hours that docs/facts.md works out by hand.
 ghost use mathlib.Core.Path.{_≡_};
 ghost use mathlib.Core.List.{[], _∷_};
 ghost use Rattle.market.specs.declared.words.Direction.the-variants.{Up, Down};
@@ -65,8 +65,8 @@ fn facts_with_two(first: Activation, second: Activation) -> Facts
 }
 
 // With an upward and a downward bid standing, and nothing listed.
-fn facts_between(up: Price, down: Price) -> Facts
-    ensures { λ r. ⌜ r ≡ factsBetween up down ⌝ }
+fn facts_between(spot: Price, up: Price, down: Price) -> Facts
+    ensures { λ r. ⌜ r ≡ factsBetween spot up down ⌝ }
 {
     let upward = Bid {
         hour: HOUR,
@@ -86,7 +86,7 @@ fn facts_between(up: Price, down: Price) -> Facts
     };
     facts_of(
         PRICE_SETTING_MINUTES,
-        SPOT,
+        spot,
         HOUR,
         &[],
         &[upward],
@@ -110,7 +110,7 @@ pub fn worked_cases() -> [Facts; 7]
     ensures { λ r. ⌜ r ≡ workedHours ⌝ }
 {
     [
-        facts_between(Price(-1), Price(-2)),
+        facts_between(Price(-1), Price(-1), Price(-2)),
         facts_with_one(upward(20, 30)),
         facts_with_one(upward(20, 29)),
         facts_with_two(upward(0, 30), downward(30, MINUTES_IN_HOUR)),

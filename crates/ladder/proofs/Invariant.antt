@@ -14,7 +14,8 @@ use Rattle.ordered.proofs.Removed.{all-removed, rises-removed}
 use Rattle.market.specs.Order.{bidBefore, bidKey}
 use Rattle.market.specs.declared.words.Bid.{Bid}
 use Rattle.market.specs.declared.words.Direction.{Direction}
-use Rattle.ladder.specs.Sides.{Fresh, Once, Side, onlyOf, receiptCount, sameDirection}
+use Rattle.ladder.specs.Sides.{Fresh, Once, Side, onlyOf, receiptCount}
+use Rattle.market.specs.Words.{sameDirection}
 
 module _ (d : Direction) where
   abbrev pub Of : Bid → Type 0

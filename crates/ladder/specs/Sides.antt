@@ -4,16 +4,16 @@
 --     Side d bs            the bids stand in their order, and all are of the direction d
 --     Once up down         no receipt stands twice, in either direction
 --     Fresh g up down      no receipt above g stands
-use mathlib.Core.Bool.{Bool, true, false, _&&_, cond}
+use mathlib.Core.Bool.{Bool, true, _&&_, cond}
 use mathlib.Core.List.{List, [], _∷_}
 use mathlib.Core.Path.{_≡_}
 use Prim.Native.Nat.{ℕ, _+_, _≤_, _<_}
 use lib.Dec.{eqb}
 use Rattle.ordered.specs.Order.{rises}
 use Rattle.market.specs.Order.{bidBefore}
+use Rattle.market.specs.Words.{sameDirection}
 use Rattle.market.specs.declared.words.Bid.{Bid}
 use Rattle.market.specs.declared.words.Direction.{Direction}
-use Rattle.market.specs.declared.words.Direction.the-variants.{Up, Down}
 
 abbrev pub hasReceipt : ℕ → Bid → Bool
 hasReceipt receipt b = eqb (b .receipt .0) receipt
@@ -21,12 +21,6 @@ hasReceipt receipt b = eqb (b .receipt .0) receipt
 abbrev pub receiptCount : ℕ → List Bid → ℕ
 receiptCount receipt [] = 0
 receiptCount receipt (b ∷ bs) = cond (hasReceipt receipt b) 1 0 + receiptCount receipt bs
-
-abbrev pub sameDirection : Direction → Direction → Bool
-sameDirection Up Up = true
-sameDirection Up Down = false
-sameDirection Down Up = false
-sameDirection Down Down = true
 
 -- each of them is of that direction
 abbrev pub onlyOf : Direction → List Bid → Bool

@@ -20,7 +20,8 @@ use Rattle.market.specs.declared.words.Kind.{Kind}
 use Rattle.market.specs.declared.words.Kind.the-variants.{Listed, Special as SpecialKind}
 use Rattle.market.specs.Figures.{priceSettingMinutes}
 use Rattle.market.specs.Words.{noActivation, noBid}
-use Rattle.register.specs.Totals.{ofHour, isListed, listed, sameDirection}
+use Rattle.register.specs.Totals.{ofHour, isListed, listed}
+use Rattle.market.specs.Words.{sameDirection}
 use Rattle.pricing.specs.declared.Facts.{Facts}
 use Rattle.pricing.specs.declared.Prices.{Prices}
 use Rattle.pricing.specs.Policies.{Regular, AroundPrice}

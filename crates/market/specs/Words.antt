@@ -1,10 +1,11 @@
 -- Words for single bids and activations.
-use mathlib.Core.Bool.{false}
+use mathlib.Core.Bool.{Bool, true, false}
 use Prim.Native.Nat.{ℕ, _-_}
 use lib.IntN.{pos}
 use Rattle.market.specs.declared.words.Activation.{Activation}
 use Rattle.market.specs.declared.words.Bid.{Bid}
-use Rattle.market.specs.declared.words.Direction.the-variants.{Up}
+use Rattle.market.specs.declared.words.Direction.{Direction}
+use Rattle.market.specs.declared.words.Direction.the-variants.{Up, Down}
 use Rattle.market.specs.declared.words.Kind.the-variants.{Listed}
 use Rattle.market.specs.declared.words.Portfolio.the-variants.{Production}
 use Rattle.market.specs.Energy.{energy}
@@ -45,3 +46,9 @@ minutesOf a = a .«last_minute» - a .«first_minute»
 -- its energy, rounded alone
 abbrev pub energyOf : Activation → ℕ
 energyOf a = energy (a .volume .0) (minutesOf a)
+
+abbrev pub sameDirection : Direction → Direction → Bool
+sameDirection Up Up = true
+sameDirection Up Down = false
+sameDirection Down Up = false
+sameDirection Down Down = true

@@ -1,4 +1,4 @@
--- The hours that the guide prices by hand. Assumes nothing.
+-- The hours that docs/pricing.md prices by hand. Assumes nothing.
 use mathlib.Core.Bool.{Bool, true, false}
 use mathlib.Core.List.{List, [], _∷_}
 use lib.IntN.{ℤ, pos, negℤ}

@@ -1,4 +1,4 @@
-// Hours that the guide prices by hand.
+// Hours that docs/pricing.md prices by hand.
 ghost use mathlib.Core.Path.{_≡_};
 ghost use Rattle.std.specs.shelf.Lists.{All};
 ghost use Rattle.pricing.specs.Policies.{Regular};

@@ -14,8 +14,8 @@ use Rattle.std.proofs.shelf.Signed.{toZ-ofZ, toZ-pos}
 use Rattle.std.proofs.shelf.Sums.{sumBy-more}
 use Rattle.market.specs.declared.words.Activation.{Activation}
 use Rattle.market.specs.declared.words.Direction.{Direction}
-use Rattle.register.specs.Totals.{adds, sameDirection, totalOf, greatestTotal, Total}
-use Rattle.market.specs.Words.{energyOf, noActivation}
+use Rattle.register.specs.Totals.{adds, totalOf, greatestTotal, Total}
+use Rattle.market.specs.Words.{energyOf, noActivation, sameDirection}
 
 -- z is the sum over the first n activations, each of which adds less than 2^35
 pub record Running (counts : Activation → Bool) (direction : Direction) (activations : List Activation) (n : ℕ) (z : ℤ) : Type 0 where

@@ -11,14 +11,13 @@ use Rattle.units.specs.declared.Position.{Position}
 use Rattle.units.specs.declared.Party.{Party}
 use Rattle.market.specs.declared.words.Activation.{Activation}
 use Rattle.market.specs.declared.words.Direction.{Direction}
-use Rattle.market.specs.declared.words.Direction.the-variants.{Up, Down}
 use Rattle.market.specs.declared.words.Kind.{Kind}
 use Rattle.market.specs.declared.words.Kind.the-variants.{Listed, Special}
 use Rattle.market.specs.declared.words.Portfolio.{Portfolio}
 use Rattle.market.specs.declared.words.Portfolio.the-variants.{Production, ConsumptionAndTrade}
 use Rattle.register.specs.declared.totals.Selection.{Selection}
 use Rattle.register.specs.declared.totals.Selection.the-variants.{Listed as ListedOf, Account}
-use Rattle.market.specs.Words.{energyOf}
+use Rattle.market.specs.Words.{energyOf, sameDirection}
 
 abbrev pub ofHour : Position → Activation → Bool
 ofHour hour a = eqb (a .hour .0) (hour .0)
@@ -33,12 +32,6 @@ samePortfolio Production ConsumptionAndTrade = false
 samePortfolio ConsumptionAndTrade Production = false
 samePortfolio ConsumptionAndTrade ConsumptionAndTrade = true
 
-abbrev pub sameDirection : Direction → Direction → Bool
-sameDirection Up Up = true
-sameDirection Up Down = false
-sameDirection Down Up = false
-sameDirection Down Down = true
-
 -- a listed activation of the hour
 abbrev pub listed : Position → Activation → Bool
 listed hour a = ofHour hour a && isListed (a .kind)
@@ -48,7 +41,7 @@ abbrev pub ofAccount : Position → Party → Portfolio → Activation → Bool
 ofAccount hour party portfolio a =
     ofHour hour a && (eqb (a .party .0) (party .0) && samePortfolio (a .portfolio) portfolio)
 
--- what an activation adds to the total of a direction: its energy, where it counts and sameDirection that way
+-- what an activation adds to the total of a direction: its energy, where it counts and goes that way
 abbrev pub adds : (Activation → Bool) → Direction → Activation → ℕ
 adds counts direction a = cond (counts a && sameDirection direction (a .direction)) (energyOf a) 0
 
@@ -70,18 +63,18 @@ abbrev pub greatestTotal : ℕ
 greatestTotal = 2 ^ 63 - 1
 
 -- so few activations that no sum over them comes near the greatest total
-abbrev pub Short : List Activation → Type 0
-Short activations = length activations ≤ 2 ^ 28
+abbrev pub Few : List Activation → Type 0
+Few activations = length activations ≤ 2 ^ 28
 
 -- z is the sum n over the activations
 pub record Total (activations : List Activation) (n : ℕ) (z : ℤ) : Type 0 where
   pub capped : z ≡ pos (min n greatestTotal)
-  pub exact : Short activations → z ≡ pos n
+  pub exact : Few activations → z ≡ pos n
 
 -- z is the upward sum less the downward sum over the activations
 pub record Supplement (activations : List Activation) (up down : ℕ) (z : ℤ) : Type 0 where
   pub capped : z ≡ pos (min up greatestTotal) -ℤ pos (min down greatestTotal)
-  pub exact : Short activations → z ≡ pos up -ℤ pos down
+  pub exact : Few activations → z ≡ pos up -ℤ pos down
 
 -- the activations that the loop over them counts
 abbrev pub selects : Selection → Activation → Bool

@@ -19,7 +19,8 @@ use Rattle.units.specs.declared.Price.{Price}
 use Rattle.pricing.specs.declared.Facts.{Facts}
 use Rattle.pricing.specs.declared.Prices.{Prices}
 use Rattle.pricing.specs.Policies.{AroundPrice}
-use Rattle.register.specs.Totals.{ofHour, isListed, sameDirection, adds}
+use Rattle.register.specs.Totals.{ofHour, isListed, adds}
+use Rattle.market.specs.Words.{sameDirection}
 use Rattle.integers.specs.Sums.{sumTo}
 use Rattle.integers.proofs.Products.{mul-add, mul-sub, mul-neg, mul-keeps}
 use Rattle.integers.proofs.Sums.{sumTo-same, sumTo-sub, sumTo-scale, sumTo-keeps, sumOver-same, sumOver-sub, sumOver-scale}

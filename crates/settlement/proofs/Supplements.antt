@@ -18,7 +18,8 @@ use Rattle.market.specs.declared.words.Direction.the-variants.{Up, Down}
 use Rattle.market.specs.declared.words.Portfolio.{Portfolio}
 use Rattle.market.specs.declared.words.Portfolio.the-variants.{Production, ConsumptionAndTrade}
 use Rattle.market.specs.Words.{energyOf}
-use Rattle.register.specs.Totals.{ofHour, ofAccount, samePortfolio, sameDirection, adds}
+use Rattle.register.specs.Totals.{ofHour, ofAccount, samePortfolio, adds}
+use Rattle.market.specs.Words.{sameDirection}
 use Rattle.integers.specs.Sums.{sumTo, sumOver}
 use Rattle.integers.proofs.Sums.{sumTo-same, sumTo-none, sumTo-only, sumOver-add, sumOver-same, sumOver-swap}
 use Rattle.settlement.specs.Hour.{Hour, supplement, netActivated, OwnActivations}

@@ -1,5 +1,5 @@
 use mathlib.Core.Path.{refl, sym, _∙_}
-use Rattle.register.specs.Totals.{Short}
+use Rattle.register.specs.Totals.{Few}
 use Rattle.pricing.specs.declared.Facts.{Facts}
 use Rattle.facts.specs.Facts.{Told}
 use Rattle.facts.proofs.Alone.{alone}
@@ -40,7 +40,7 @@ returns c =
       upward = c .went .ensures .reading;
       downward = c .went-2 .ensures .reading;
     } in
-    let exact = λ (short : Short activations).
+    let exact = λ (short : Few activations).
     together minutes spot hour activations ups downs _ _ _ _ _ _ _ (c .balancing-price .ensures .value) (c .balancing-price-2 .ensures .value)
     (c .standing-middle .ensures .value) (c .net-energy .ensures .exact short) (course .ensures .value short)
     (c .went .ensures .value) (c .went-2 .ensures .value) in

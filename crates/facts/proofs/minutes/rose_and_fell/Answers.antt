@@ -3,7 +3,7 @@ use Prim.Native.Nat.{_+_, _-_, _≤_}
 use borrow.Author.Needs.{needs}
 use native.Mathlib.Omega.{arith}
 use mir.Syntax.{w64}
-use Rattle.register.specs.Totals.{Short}
+use Rattle.register.specs.Totals.{Few}
 use Rattle.market.specs.Figures.{minutesInHour}
 use Rattle.std.proofs.shelf.Signed.{toZ-ofZ}
 use Rattle.facts.specs.Minutes.{delta}
@@ -29,8 +29,8 @@ returns c =
     let hour = c .args .hour in
     let activations = c .args .activations .now in
     let end : c .loop-minute .minute ≡ minutesInHour = omega arith in
-    let rose = λ (short : Short activations). rose-all hour activations (c .loop-minute .minute) (c .loop-minute .rose) end (c .loop-minute .inv short .1) in
-    let fell = λ (short : Short activations). fell-all hour activations (c .loop-minute .minute) (c .loop-minute .fell) end (c .loop-minute .inv short .2) in
+    let rose = λ (short : Few activations). rose-all hour activations (c .loop-minute .minute) (c .loop-minute .rose) end (c .loop-minute .inv short .1) in
+    let fell = λ (short : Few activations). fell-all hour activations (c .loop-minute .minute) (c .loop-minute .fell) end (c .loop-minute .inv short .2) in
     record {
       value = λ short. let r = rose short in let f = fell short in cc;
       reading = λ short. reads hour activations _ _ (rose short) (fell short);

@@ -1,8 +1,8 @@
 use mathlib.Core.Path.{ap, sym, _∙_}
 use borrow.Author.Needs.{needs}
 use lib.ListN.{getD}
-use Rattle.register.specs.Totals.{sameDirection, selects}
-use Rattle.market.specs.Words.{noActivation}
+use Rattle.register.specs.Totals.{selects}
+use Rattle.market.specs.Words.{noActivation, sameDirection}
 use Rattle.market.specs.declared.words.Activation.{Activation}
 use Rattle.market.specs.declared.words.Direction.the-variants.{Up, Down}
 use Rattle.register.proofs.Running.{running-adds, running-keeps, running-all, adds-none, adds-other}

@@ -5,7 +5,7 @@ use lib.ListN.{length}
 use Rattle.std.specs.Results.{isOk}
 use Rattle.ordered.specs.Listed.{items, spaceOf}
 use Rattle.market.specs.declared.words.Direction.the-variants.{Up, Down}
-use Rattle.ladder.specs.Sides.{sameDirection}
+use Rattle.market.specs.Words.{sameDirection}
 use Rattle.ladder.proofs.Put.{More, fresh-more, once-more, put-new}
 use Rattle.ladder.proofs.ladder.Ladder.add.Needs as need
 
