@@ -1,4 +1,4 @@
--- What acceptance guarantees of an hour. It is enough for the facts to be regular.
+-- What acceptance guarantees of an hour, as far as it is needed for the facts to be regular.
 use mathlib.Core.Bool.{true}
 use mathlib.Core.List.{List}
 use mathlib.Core.Path.{_≡_}

@@ -16,6 +16,8 @@ use Rattle.ordered.proofs.Lexical.{lex-order}
 use Rattle.ordered.proofs.Placed.{all-placed}
 use Rattle.market.specs.declared.words.Activation.{Activation}
 use Rattle.market.specs.declared.words.Bid.{Bid}
+use Rattle.market.specs.declared.words.Direction.{Direction}
+use Rattle.units.specs.declared.Position.{Position}
 use Rattle.market.specs.declared.words.Kind.the-variants.{Listed}
 use Rattle.market.specs.Figures.{leastBidVolume, priceLimit}
 use Rattle.market.specs.Order.{activationKey}
@@ -71,7 +73,7 @@ unfolding withActivation
 all-with P keeps a xs p all = all-placed (lex-order activationKey) P xs (arrived (length xs) a) (keeps (length xs) a p) all
 
 -- a bid that is taken gives a sound activation
-taken-sound : (o : Opening) (n : ℕ) (b : Bid) (hour first last : ℕ) → BidSound o n b → b .hour .0 ≡ hour → first < last → ActivationSound o n (listedOf b (record { 0 = hour }) first last)
+taken-sound : (o : Opening) (n : ℕ) (b : Bid) (hour : Position) (first last : ℕ) → BidSound o n b → b .hour .0 ≡ hour .0 → first < last → ActivationSound o n (listedOf b hour first last)
 taken-sound o n b hour first last s e lasts =
     record {
       entered = s .entered;
@@ -89,14 +91,14 @@ settled-cases {X} h k m n old e =
     some-same : {X : Type 0} (m n : X) → Some m ≡ Some n → m ≡ n
     some-same m n e = cc
 
-kept-taken : (f : Figures) (hour receipt first last : ℕ) → Kept f → (t : Takes f hour receipt first last) → f .stage ≡ Running → Kept (withTaken (Some (t .bid)) (record { 0 = hour }) first last f)
-kept-taken f hour receipt first last k t running =
+kept-taken : (f : Figures) (hour : Position) (direction : Direction) (first last receipt energy : ℕ) → Kept f → (t : Takes f hour direction first last receipt energy) → Kept (withTaken (Some (t .bid)) hour first last f)
+kept-taken f hour direction first last receipt energy k t =
     let b = t .bid in
     let s = with-receipt (BidSound (f .opening) (f .parties)) receipt (f .bids) b (k .bids) (t .stands) .0 in
     record {
       spots = k .spots;
       bids = all-dropped (BidSound (f .opening) (f .parties)) (b .receipt .0) (f .bids) (k .bids);
-      activations = all-with (ActivationSound (f .opening) (f .parties)) (sound-arrived (f .opening) (f .parties)) (listedOf b (record { 0 = hour }) first last) (f .activations) (taken-sound (f .opening) (f .parties) b hour first last s (t .of-hour) (t .lasts)) (k .activations);
+      activations = all-with (ActivationSound (f .opening) (f .parties)) (sound-arrived (f .opening) (f .parties)) (listedOf b hour first last) (f .activations) (taken-sound (f .opening) (f .parties) b hour first last s (t .of-hour) (t .lasts)) (k .activations);
       unsettled = k .unsettled;
       rules = k .rules;
       in-day = k .in-day;
@@ -129,7 +131,7 @@ kept-after (BidAccepted offer receipt) f k l =
 kept-after (Withdrawn receipt) f k l = record { spots = k .spots; bids = all-dropped _ receipt (f .bids) (k .bids); activations = k .activations; unsettled = k .unsettled; rules = k .rules; in-day = k .in-day }
 kept-after (Hold receipt held) f k l = record { spots = k .spots; bids = all-marked _ (blind (f .opening) (f .parties)) receipt held (f .bids) (k .bids); activations = k .activations; unsettled = k .unsettled; rules = k .rules; in-day = k .in-day }
 kept-after (Activated hour direction first last receipt energy) f k l =
-    subst (λ o. Kept (withTaken o hour first last f)) (sym (l .1 .stands)) (kept-taken f (hour .0) receipt first last k (l .1) (l .0))
+    subst (λ o. Kept (withTaken o hour first last f)) (sym (l .1 .stands)) (kept-taken f hour direction first last receipt energy k (l .1))
 kept-after (Special a energy) f k l =
     record {
       spots = k .spots;

@@ -29,11 +29,10 @@ use Rattle.facts.specs.Listed.{listedIn, anyOf, went}
 use Rattle.facts.specs.Sound.{SoundActivation, Sound}
 use Rattle.facts.proofs.Reckoned.{regular-reckoned}
 use Rattle.settlement.specs.Hour.{OwnActivations}
-use Rattle.settlement.specs.HourLaws.{OneWay}
 use Rattle.settlement.specs.Payments.{directionPrice}
 use Rattle.settlement.proofs.EnergyLaw.{energy-sums}
 use Rattle.settlement.proofs.MoneyLaw.{money-sums}
-use Rattle.settlement.proofs.BalancedLaw.{never-costs}
+use Rattle.settlement.proofs.BalancedLaw.{AllOneWay, all-one-way, never-costs}
 use Rattle.integers.specs.Sums.{sumTo}
 use Rattle.integers.proofs.Sums.{sumTo-same, sumTo-none, sumTo-neg, sumTo-swap}
 use Rattle.ledger.specs.Figures.{Figures}
@@ -106,7 +105,7 @@ unfolding directionPriceOf
 price-is facts Up = refl
 price-is facts Down = refl
 
-around : (f : Figures) → Kept f → (h : ℕ) (m : Facts → Prices) (d : Direction) → f .settled h ≡ Some m → OneWay d (hourAt f h) → went (position h) d (f .activations) ≡ true → AroundPrice (directionPriceOf (factsAt f h) d) (m (factsAt f h))
+around : (f : Figures) → Kept f → (h : ℕ) (m : Facts → Prices) (d : Direction) → f .settled h ≡ Some m → AllOneWay d (hourAt f h) → went (position h) d (f .activations) ≡ true → AroundPrice (directionPriceOf (factsAt f h) d) (m (factsAt f h))
 unfolding directionPriceOf factsAt
 around f k h m Up e one some =
     k .rules h m e .one-way (factsAt f h) (regular f k h (k .in-day h m e)) .0 (some, none-other h Up Down (f .activations) refl one)
@@ -122,7 +121,7 @@ three-sums opening journal l =
     let operator : operatorAccount opening journal ≡ sumTo n (settledAt taken f) = booked-sum taken opening journal l in
     record {
       accounts = accounts;
-      energy = λ h m e. energy-sums (hourAt f h) (own f k h);
+      energy = λ h. energy-sums (hourAt f h) (own f k h);
       money =
           sumTo-same (f .parties) (account opening journal) (λ p. sumTo n (settledAt (dueToParty p) f)) (λ p _. accounts p)
           ∙ sumTo-swap (f .parties) n (λ p h. settledAt (dueToParty p) f h)
@@ -130,6 +129,7 @@ three-sums opening journal l =
           ∙ sumTo-neg n (settledAt taken f)
           ∙ ap negℤ (sym operator);
       operator = operator;
-      balanced = λ h m d e b one some.
-          never-costs priceSettingMinutes (factsAt f h) (hourAt f h) d (m (factsAt f h)) (directionPriceOf (factsAt f h) d) (price-is (factsAt f h) d) (around f k h m d e one some) (own f k h) b one;
+      balanced = λ h m d e b one none.
+          let all = all-one-way d (hourAt f h) none (one .1) in
+          never-costs priceSettingMinutes (factsAt f h) (hourAt f h) d (m (factsAt f h)) (directionPriceOf (factsAt f h) d) (price-is (factsAt f h) d) (around f k h m d e all (one .0)) (own f k h) b all;
     }

@@ -1,4 +1,4 @@
--- The sample day, computed.
+-- The worked days, computed.
 use native.Mathlib.Omega.{arith}
 use mathlib.Core.Path.{refl}
 use mathlib.Core.Logic.{inl}
@@ -14,7 +14,7 @@ use Rattle.settlement.specs.Hour.{counted}
 use Rattle.settlement.specs.Payments.{priced, payment}
 use Rattle.ledger.specs.Reckoned.{factsAt, bookedIn}
 use Rattle.ledger.specs.Lawful.{LawfulOpening}
-use Rattle.ledger.specs.Sample.{sampleOpening, SampleDay}
+use Rattle.ledger.specs.Sample.{sampleOpening, SampleDay, MixedDay}
 
 within-limit : LawfulOpening sampleOpening
 within-limit h l = record { low = omega (arith, ints); high = omega (arith, ints) }
@@ -50,9 +50,9 @@ sample-day =
                         ),
                         refl,
                       ),
-                      (refl, record { in-day = lit< tt; entered = lit< tt; enough = lit≤ tt; price-within = record { low = omega (arith, ints); high = omega (arith, ints) }; side = omega (arith, ints) }),
+                      (refl, record { in-day = lit< tt; entered = lit< tt; enough = lit≤ tt; price-within = record { low = omega (arith, ints); high = omega (arith, ints) }; side = omega (arith, ints) }, refl),
                     ),
-                    (refl, record { bid = _; stands = refl; of-hour = refl; lasts = lit< tt }),
+                    (refl, record { bid = _; stands = refl; of-hour = refl; of-direction = refl; lasts = lit< tt; answered = refl }),
                   ),
                   refl,
                 ),
@@ -68,8 +68,60 @@ sample-day =
       );
       settled = refl;
       balanced = refl;
-      one-way = (λ e. (refl, refl), tt);
-      went-up = refl;
+      one-way = (refl, (λ e k. refl, tt));
+      none-special = (λ e. refl, tt);
+      net-energy = refl;
+      prices = refl;
+      first-party = refl;
+      second-party = refl;
+      operator = refl;
+    }
+
+pub mixed-day : MixedDay
+unfolding energy lexBefore withActivation rose fell sumTo sumOver counted priced payment factsAt bookedIn
+mixed-day =
+    record {
+      lawful = (
+        (
+          (
+            (
+              (
+                (
+                  (
+                    (
+                      (
+                        (
+                          (
+                            (
+                              (
+                                within-limit,
+                                (refl, refl),
+                              ),
+                              (refl, refl),
+                            ),
+                            inl refl,
+                          ),
+                          refl,
+                        ),
+                        (refl, record { in-day = lit< tt; entered = lit< tt; enough = lit≤ tt; price-within = record { low = omega (arith, ints); high = omega (arith, ints) }; side = omega (arith, ints) }, refl),
+                      ),
+                      (refl, record { bid = _; stands = refl; of-hour = refl; of-direction = refl; lasts = lit< tt; answered = refl }),
+                    ),
+                    (refl, refl, lit< tt, refl),
+                  ),
+                  refl,
+                ),
+                (refl, refl),
+              ),
+              (refl, refl),
+            ),
+            (refl, refl),
+          ),
+          (refl, refl),
+        ),
+        (refl, refl, lit< tt, nordic-rules),
+      );
+      outside = refl;
       first-party = refl;
       second-party = refl;
       operator = refl;

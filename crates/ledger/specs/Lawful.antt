@@ -1,10 +1,13 @@
--- What the acceptance of a call guarantees.
-use Prim.Native.Nat.{ℕ, _≤_, _<_}
+-- What the acceptance of a call guarantees, as far as the law of the sums needs it, and that its answer is the right one.
+use Prim.Native.Nat.{ℕ, _+_, _≤_, _<_}
 use mathlib.Core.List.{[], _∷_}
 use mathlib.Core.Logic.{_⊎_}
 use mathlib.Core.Path.{_≡_}
 use Rattle.std.specs.declared.option.Option.the-variants.{Some, None}
 use Rattle.market.specs.declared.words.Bid.{Bid}
+use Rattle.market.specs.declared.words.Direction.{Direction}
+use Rattle.market.specs.Words.{energyOf}
+use Rattle.units.specs.declared.Position.{Position}
 use Rattle.market.specs.declared.words.Kind.the-variants.{Special as SpecialKind}
 use Rattle.market.specs.Figures.{leastBidVolume, priceLimit}
 use Rattle.ladder.specs.declared.offer.Offer.{Offer}
@@ -12,7 +15,7 @@ use Rattle.ladder.specs.Ladder.{standingWith}
 use Rattle.pricing.specs.Policies.{ShowsRules, Within}
 use Rattle.facts.specs.Sound.{OnItsSide}
 use Rattle.ledger.specs.Figures.{Planned, Running, Metered, Opening, Figures}
-use Rattle.ledger.specs.Journal.{Entry, Journal, Entered, Plan, Notice, Clock, Start, BidAccepted, Withdrawn, Hold, Activated, Special, Finish, Reading, Settled, figures}
+use Rattle.ledger.specs.Journal.{Entry, Journal, Entered, Plan, Notice, Clock, Start, BidAccepted, Withdrawn, Hold, Activated, Special, Finish, Reading, Settled, listedOf, figures}
 
 -- every spot price of the day is within its limit
 abbrev pub LawfulOpening : Opening → Type 0
@@ -26,12 +29,14 @@ pub record SoundOffer (f : Figures) (offer : Offer) : Type 0 where
   pub price-within : Within priceLimit (offer .price)
   pub side : OnItsSide (offer .direction) (f .opening .spot (offer .hour .0)) (offer .price)
 
--- a standing bid of that receipt is taken
-pub record Takes (f : Figures) (hour receipt first last : ℕ) : Type 0 where
+-- a standing bid of that receipt, hour and direction is taken
+pub record Takes (f : Figures) (hour : Position) (direction : Direction) (first last receipt energy : ℕ) : Type 0 where
   pub bid : Bid
   pub stands : standingWith receipt (f .bids) ≡ Some bid
-  pub of-hour : bid .hour .0 ≡ hour
+  pub of-hour : bid .hour .0 ≡ hour .0
+  pub of-direction : bid .direction ≡ direction
   pub lasts : first < last
+  pub answered : energy ≡ energyOf (listedOf bid hour first last)
 
 abbrev pub Lawful : Entry → Figures → Type 0
 Lawful (Entered p) f = (f .stage ≡ Planned) × (p ≡ f .parties)
@@ -39,11 +44,11 @@ Lawful (Plan h p x) f = (f .stage ≡ Planned) ⊎ (f .stage ≡ Running)
 Lawful (Notice h p q x) f = (f .stage ≡ Planned) ⊎ (f .stage ≡ Running)
 Lawful (Clock t) f = (f .stage ≡ Planned) ⊎ (f .stage ≡ Running)
 Lawful Start f = f .stage ≡ Planned
-Lawful (BidAccepted offer receipt) f = (f .stage ≡ Running) × SoundOffer f offer
+Lawful (BidAccepted offer receipt) f = (f .stage ≡ Running) × SoundOffer f offer × (receipt ≡ f .bids .given + 1)
 Lawful (Withdrawn receipt) f = f .stage ≡ Running
 Lawful (Hold receipt held) f = f .stage ≡ Running
-Lawful (Activated hour direction first last receipt energy) f = (f .stage ≡ Running) × Takes f (hour .0) receipt first last
-Lawful (Special a energy) f = (f .stage ≡ Running) × (a .kind ≡ SpecialKind) × (a .party .0 < f .parties)
+Lawful (Activated hour direction first last receipt energy) f = (f .stage ≡ Running) × Takes f hour direction first last receipt energy
+Lawful (Special a energy) f = (f .stage ≡ Running) × (a .kind ≡ SpecialKind) × (a .party .0 < f .parties) × (energy ≡ energyOf a)
 Lawful Finish f = f .stage ≡ Running
 Lawful (Reading h p meter x) f = (f .stage ≡ Metered) × (f .settled h ≡ None)
 Lawful (Settled h m) f = (f .stage ≡ Metered) × (f .settled h ≡ None) × (h < f .opening .hours) × ShowsRules m

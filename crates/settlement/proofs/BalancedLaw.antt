@@ -2,7 +2,9 @@
 use Prim.Native.Nat.{ℕ, _+_, _≤_}
 use native.Mathlib.Omega.{arith}
 use mathlib.Core.Bool.{Bool, true, false, not, cond, _&&_}
+use mathlib.Core.List.{List, [], _∷_}
 use mathlib.Core.Path.{_≡_, refl, sym, ap, subst, _∙_}
+use Rattle.std.specs.shelf.Lists.{All}
 use lib.Dec.{leb}
 use lib.IntN.{ℤ, pos, negℤ, _+ℤ_, _-ℤ_, _*ℤ_, *ℤ-comm, *ℤ-zero}
 use lib.Signed.{_≤ℤ_}
@@ -26,7 +28,7 @@ use Rattle.integers.proofs.Products.{mul-add, mul-sub, mul-neg, mul-keeps}
 use Rattle.integers.proofs.Sums.{sumTo-same, sumTo-sub, sumTo-scale, sumTo-keeps, sumOver-same, sumOver-sub, sumOver-scale}
 use Rattle.settlement.specs.Hour.{Hour, productionImbalance, consumptionImbalance, meteredProduction, meteredConsumption, netOutsidePurchases, netActivated, OwnActivations}
 use Rattle.settlement.specs.Payments.{surplus, shortfall, signed, directionPrice, payment, gainOf, gain, regulation, pricedSurplus, pricedShortfall}
-use Rattle.settlement.specs.HourLaws.{Balanced, OneWay, NeverCosts}
+use Rattle.settlement.specs.HourLaws.{Balanced, NoneSpecial, ListedOneWay, NeverCosts}
 use Rattle.settlement.proofs.Supplements.{difference}
 use Rattle.settlement.proofs.EnergyLaw.{energy-sums}
 
@@ -92,6 +94,17 @@ left-over made used outside activated e = omega (arith, ints)
 bound : (short long paid gained v w x : ℤ) → v ≤ℤ short → long ≤ℤ w → w -ℤ v ≡ negℤ x → paid -ℤ gained ≡ x → pos 0 ≤ℤ (((short -ℤ long) -ℤ paid) +ℤ gained)
 bound short long paid gained v w x a b e f = omega (arith, ints)
 
+-- all activations of the hour are listed, and in that direction
+abbrev pub AllOneWay : Direction → Hour → Type 0
+AllOneWay d hour = All (λ a. ofHour (hour .position) a ≡ true → (a .kind ≡ Listed) × (a .direction ≡ d)) (hour .activations)
+
+pub all-one-way : (d : Direction) (hour : Hour) → NoneSpecial hour → ListedOneWay d hour → AllOneWay d hour
+all-one-way d hour none one = both (hour .activations) none one
+  where
+    both : (xs : List Activation) → All (λ a. ofHour (hour .position) a ≡ true → a .kind ≡ Listed) xs → All (λ a. ofHour (hour .position) a ≡ true → a .kind ≡ Listed → a .direction ≡ d) xs → All (λ a. ofHour (hour .position) a ≡ true → (a .kind ≡ Listed) × (a .direction ≡ d)) xs
+    both [] n o = tt
+    both (x ∷ xs) n o = (λ h. (n .0 h, o .0 h (n .0 h)), both xs (n .1) (o .1))
+
 module _ (minutes : ℕ) (facts : Facts) (hour : Hour) (d : Direction) where
   net : Activation → ℤ
   net a = pos (adds (ofHour (hour .position)) Up a) -ℤ pos (adds (ofHour (hour .position)) Down a)
@@ -115,7 +128,7 @@ module _ (minutes : ℕ) (facts : Facts) (hour : Hour) (d : Direction) where
           ∙ ap (λ x. directionPrice facts x *ℤ (pos (cond (sameDirection Up e) n 0) -ℤ pos (cond (sameDirection Down e) n 0))) (h refl .1)
       by true Special e h = absurd (let z : _≡_ {A = ℕ} 0 1 = cc (h refl .0) in omega arith)
 
-  regulation-less-gain : OneWay d hour → regulation minutes facts hour -ℤ gain minutes facts hour ≡ directionPrice facts d *ℤ netActivated hour
+  regulation-less-gain : AllOneWay d hour → regulation minutes facts hour -ℤ gain minutes facts hour ≡ directionPrice facts d *ℤ netActivated hour
   unfolding net
   regulation-less-gain one =
       let as₁ = hour .activations in
@@ -161,7 +174,7 @@ module _ (minutes : ℕ) (facts : Facts) (hour : Hour) (d : Direction) where
         ∙ energy-sums hour owned
         ∙ left-over (meteredProduction hour) (meteredConsumption hour) (netOutsidePurchases hour) (netActivated hour) balanced
 
-    pub never-costs : OwnActivations hour → Balanced hour → OneWay d hour → NeverCosts minutes facts prices hour
+    pub never-costs : OwnActivations hour → Balanced hour → AllOneWay d hour → NeverCosts minutes facts prices hour
     never-costs owned balanced one =
         let n : ℕ = hour .parties in
         let s : ℤ = sumTo n surplusOf in

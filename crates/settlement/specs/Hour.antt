@@ -62,9 +62,9 @@ meteredProduction hour = sumTo (hour .parties) (hour .produced)
 abbrev pub meteredConsumption : Hour → ℤ
 meteredConsumption hour = sumTo (hour .parties) (hour .consumed)
 
--- the hour's outside notices, negated
+-- the hour's outside notices, negated: what the outside buys, the area sells
 abbrev pub netOutsidePurchases : Hour → ℤ
-netOutsidePurchases hour = sumTo (hour .parties) (fromOutside hour)
+netOutsidePurchases hour = negℤ (sumTo outsideParties (λ k. sumTo (hour .parties) (λ p. hour .notice (firstOutside + k) p)))
 
 -- of both kinds
 abbrev pub activatedEnergy : Hour → Direction → ℕ

@@ -28,9 +28,13 @@ MoneySums minutes facts prices hour = sumTo (hour .parties) (dueTo minutes facts
 abbrev pub Balanced : Hour → Type 0
 Balanced hour = meteredProduction hour +ℤ netOutsidePurchases hour ≡ meteredConsumption hour
 
--- all activations of the hour are listed, and in that direction
-abbrev pub OneWay : Direction → Hour → Type 0
-OneWay direction hour = All (λ a. ofHour (hour .position) a ≡ true → (a .kind ≡ Listed) × (a .direction ≡ direction)) (hour .activations)
+-- the hour has no special activation
+abbrev pub NoneSpecial : Hour → Type 0
+NoneSpecial hour = All (λ a. ofHour (hour .position) a ≡ true → a .kind ≡ Listed) (hour .activations)
+
+-- all listed activations of the hour go in that direction
+abbrev pub ListedOneWay : Direction → Hour → Type 0
+ListedOneWay direction hour = All (λ a. ofHour (hour .position) a ≡ true → a .kind ≡ Listed → a .direction ≡ direction) (hour .activations)
 
 -- (c) a balanced hour regulated one way never costs the operator, but for what short activations gain
 abbrev pub NeverCosts : ℕ → Facts → Prices → Hour → Type 0

@@ -91,7 +91,10 @@ mod tests {
         let (up, down) = register.listed_totals(HOUR);
         check_eq(up.0, 5_000)?;
         check_eq(down.0, 0)?;
-        check_eq(register.supplement(HOUR, Party(0), Portfolio::Production).0, 15_000)?;
+        check_eq(
+            register.supplement(HOUR, Party(0), Portfolio::Production).0,
+            15_000,
+        )?;
         let facts = facts_of(10, Price(3_000), HOUR, register.as_slice(), &[], &[]);
         check_eq(facts.up_price.0, 3_500)?;
         check_eq(facts.down_price.0, 3_000)?;
