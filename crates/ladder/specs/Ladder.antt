@@ -27,6 +27,7 @@ pub record StandingBids : Type 0 where
   pub down : List Bid
   pub given : ℕ
 
+-- what a ladder holds
 abbrev pub view : Ladder → StandingBids
 view l = record { up = items (l .up); down = items (l .down); given = l .given }
 
@@ -47,11 +48,12 @@ hasRoom s = ltb (standingCount s) mostBids && ltb (s .given) mostReceipts
 
 -- ---- what the calls make of the standing bids
 
--- the offer stands at its place as a bid, under the next receipt
+-- b stands at its place in the list of that direction, and one more receipt is given
 abbrev pub addedTo : Direction → Bid → StandingBids → StandingBids
 addedTo Up b s = record { up = placed bidBefore b (s .up); down = s .down; given = s .given + 1 }
 addedTo Down b s = record { up = s .up; down = placed bidBefore b (s .down); given = s .given + 1 }
 
+-- the offer stands as a bid of its direction, under the next receipt
 abbrev pub added : Offer → StandingBids → StandingBids
 added offer s = addedTo (offer .direction) (bidOf (s .given + 1) offer) s
 
@@ -96,6 +98,7 @@ abbrev pub firstBy : (Bid → Bool) → List Bid → Option Bid
 firstBy test [] = None
 firstBy test (b ∷ bs) = cond (test b) (Some b) (firstBy test bs)
 
+-- the first bid of that receipt
 abbrev pub withReceipt : ℕ → List Bid → Option Bid
 withReceipt receipt bs = firstBy (hasReceipt receipt) bs
 
@@ -107,6 +110,7 @@ standingWith receipt s = orOther (withReceipt receipt (s .up)) (withReceipt rece
 abbrev pub isFree : ℕ → Bid → Bool
 isFree hour b = eqb (b .hour .0) hour && not (b .held)
 
+-- the first free bid of the hour
 abbrev pub firstFree : ℕ → List Bid → Option Bid
 firstFree hour bs = firstBy (isFree hour) bs
 

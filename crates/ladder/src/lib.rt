@@ -1,4 +1,4 @@
-// The standing bids of a day, in the order in which they would be called on.
+// The standing bids of each direction, by hour, price and receipt: upward the lowest price first, downward the highest.
 mod ladder;
 mod offer;
 pub mod standing;
