@@ -1,4 +1,6 @@
 // What the settlements of a day have booked: an account for each party, the operator's, and the prices of each settled hour.
+#![tactic(auto)]
+
 ghost use Rattle.std.specs.Prelude.{◌≡◌};
 ghost use Rattle.accounts.specs.Booked.{amounts_of, operator_of, settled_of, Opened};
 

@@ -1,4 +1,6 @@
 // What the books of an hour come to: a party's trade, its imbalances, and what is due to it.
+#![tactic(auto)]
+
 mod book;
 mod due;
 mod narrow;

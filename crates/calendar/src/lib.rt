@@ -1,4 +1,6 @@
 // Dates, the hours of the local day, instants, and the stamps of its hours.
+#![tactic(auto)]
+
 mod counting;
 mod days;
 mod stamps;

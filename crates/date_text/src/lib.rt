@@ -1,4 +1,6 @@
 // Dates as text, YYYY-MM-DD.
+#![tactic(auto)]
+
 ghost use Rattle.std.specs.Prelude.{ℕ, MatchOption};
 ghost use Rattle.calendar.specs.declared.Date.{Date as TheDate};
 ghost use Rattle.date_text.specs.Written.{DateText, TwoDigits};

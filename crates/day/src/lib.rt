@@ -1,4 +1,6 @@
 // The day at its three stages. Each is a type of its own: a call that does not belong to a stage is not there to be made.
+#![tactic(auto)]
+
 mod metered;
 mod metered_asks;
 mod metered_calls;

@@ -1,4 +1,5 @@
 // Whole days, replayed. What they expect is worked out by hand from docs/book.md and docs/sums.md.
+#![tactic(auto)]
 
 #[cfg(test)]
 mod tests {

@@ -1,4 +1,6 @@
 // The facts of an hour: what a pricing policy looks at, from its spot price, listed activations and standing bids.
+#![tactic(auto)]
+
 ghost use Rattle.std.specs.Prelude.{◌≡◌};
 ghost use Rattle.register.specs.Totals.{Few};
 ghost use Rattle.pricing.specs.Policies.{Regular};

@@ -1,4 +1,6 @@
 // Prints the hours of a local day: for each position its stamp, the instant at which it starts, and the local offset.
+#![tactic(auto)]
+
 use anyhow::anyhow;
 use calendar::{Date, Mark};
 use date_text::parse_date;

@@ -1,4 +1,6 @@
 // What is reckoned from a day's accepted calls, and the three sums proved of it.
+#![tactic(auto)]
+
 ghost use Rattle.journal.specs.Sample.{SampleDay, MixedDay};
 ghost use Rattle.journal.specs.Sums.{TheThreeSums};
 

@@ -1,4 +1,6 @@
 // The words of the trade in balancing power, with its figures and its one rounding.
+#![tactic(auto)]
+
 pub mod figures;
 mod order;
 pub mod rounding;

@@ -1,4 +1,6 @@
 // The notices of a day: what each sender last said of its trade with a counterparty in an hour.
+#![tactic(auto)]
+
 mod notice;
 mod table;
 mod table_calls;

@@ -1,4 +1,6 @@
 // One ordered list for every record that brings a total order.
+#![tactic(auto)]
+
 mod list;
 mod rank;
 

@@ -1,5 +1,7 @@
 // Pricing policies: from the facts of an hour to the four prices that its imbalances are settled at.
 // Anyone can write a policy. It answers by one fixed function of the facts, and that function shows the market's rules.
+#![tactic(auto)]
+
 ghost use Rattle.std.specs.Prelude.{◌≡◌};
 ghost use Rattle.pricing.specs.declared.Facts.{Facts};
 ghost use Rattle.pricing.specs.declared.Prices.{Prices};

@@ -1,4 +1,6 @@
 // Why a call is refused. Each case has a number, which users of the engine see.
+#![tactic(auto)]
+
 ghost use Rattle.std.specs.Prelude.{◌≡◌};
 ghost use Rattle.refusal.specs.Refusals.{refusal_number};
 

@@ -1,4 +1,6 @@
 // A day replayed from its script: every call made on the real day, and every answer kept.
+#![tactic(auto)]
+
 mod calls;
 mod metering;
 mod planning;

@@ -1,4 +1,6 @@
 // Which row of its table refuses a call. Each function tries its rows from the top, and changes nothing.
+#![tactic(auto)]
+
 mod activating;
 mod asking;
 mod bidding;

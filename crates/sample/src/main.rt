@@ -1,4 +1,6 @@
 // Replays the sample day and prints its sheet.
+#![tactic(auto)]
+
 use anyhow::anyhow;
 use calendar::Date;
 use day::MeteredDay;

@@ -1,4 +1,6 @@
 // How notices count, and the theory of a settled hour (specs and proofs).
+#![tactic(auto)]
+
 ghost use Rattle.std.specs.Prelude.{◌≡◌, [], ◌∷◌, map, pos, neg_ℤ};
 ghost use Rattle.settlement.specs.Hour.{counted};
 

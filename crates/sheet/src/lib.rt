@@ -1,4 +1,6 @@
 // The sheet of a metered day: the day, its settled hours, the accounts of its parties and the operator's, a line each.
+#![tactic(auto)]
+
 ghost use Rattle.std.specs.Prelude.{◌≡◌, ◌≤◌, length};
 ghost use Rattle.refusal.specs.Outcome.{Outcome};
 ghost use Rattle.day.specs.View.{metered};

@@ -1,4 +1,5 @@
 // Sheets of days that are settled by hand, run.
+#![tactic(auto)]
 
 #[cfg(test)]
 mod tests {

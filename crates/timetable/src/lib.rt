@@ -1,4 +1,6 @@
 // The times of a day: its hours, when they start, their spot prices, the clock and how many parties are entered.
+#![tactic(auto)]
+
 mod opening;
 mod timetable;
 

@@ -1,4 +1,5 @@
 // Examples of bids, activations and energy, run. What they expect is worked out by hand from docs/market.md and docs/facts.md.
+#![tactic(auto)]
 
 #[cfg(test)]
 mod tests {

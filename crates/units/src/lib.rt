@@ -1,4 +1,5 @@
 // The measures and the numbers of the trade, wrapped apart so that they cannot be mixed up.
+#![tactic(auto)]
 
 // Power in whole kilowatts.
 #[derive(Clone, Copy, PartialEq, Eq, Debug)]

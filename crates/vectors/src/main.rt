@@ -1,4 +1,6 @@
 // Compares the calendar with one from outside: each line of the input has a date, its hours, and the instant at which it starts.
+#![tactic(auto)]
+
 use anyhow::anyhow;
 use calendar::Date;
 use date_text::parse_date;

@@ -1,5 +1,7 @@
 // Writers of the fields of a sheet. Each writes its text from the start of the part that it is given, and answers how many
 // bytes that took; where the part is too short it writes nothing.
+#![tactic(auto)]
+
 ghost use Rattle.std.specs.Prelude.{◌≡◌, ◌+◌, ◌≤◌, ◌++◌, length, drop, decimal};
 ghost use Rattle.writers.specs.Text.{digit as digitOf, two_digits, text_of_date, stamp_text, number_text, field_text};
 ghost use Rattle.writers.specs.Laid.{count_of, afterwards};

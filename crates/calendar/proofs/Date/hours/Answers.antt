@@ -32,5 +32,5 @@ returns-then-is-last-sunday-of-2 c =
 
 pub returns : goal.returns
 returns c =
-    let e = ordinary c.args.self (sym c.if-not-is-covered.ensures) (sym c.if-is-last-sunday-of.ensures) (sym c.if-is-last-sunday-of-2.ensures) in
+    let e = ordinary c.args.self (sym c.if-not-is_covered.ensures) (sym c.if-is_last_sunday_of.ensures) (sym c.if-is_last_sunday_of-2.ensures) in
     record { value = e; rule = ruled _ _ e }

@@ -8,6 +8,6 @@ use Rattle.calendar.proofs.Date.minutes_ahead.Goals as goal
 pub returns : goal.returns
 returns c =
     record {
-      value = within c.args.position.0 (hours_of c.args.self) c.ahead-in.result (ahead_at c.args.self c.args.position.0) NotInDay (omega arith) (cc);
+      value = within c.args.position.0 (hours_of c.args.self) c.ahead_in.result (ahead_at c.args.self c.args.position.0) NotInDay (omega arith) (cc);
       rule = ahead_law c.args.self c.args.position.0;
     }

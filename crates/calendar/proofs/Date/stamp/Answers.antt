@@ -9,7 +9,7 @@ use Rattle.calendar.proofs.Date.stamp.Goals as goal
 pub returns : goal.returns
 returns c =
     record {
-      value = within c.args.position.0 (hours_of c.args.self) c.stamp-in.result (stamp_of (hours_of c.args.self) c.args.position.0) NotInDay (omega arith) (cc);
+      value = within c.args.position.0 (hours_of c.args.self) c.stamp_in.result (stamp_of (hours_of c.args.self) c.args.position.0) NotInDay (omega arith) (cc);
       clock = shows_law c.args.self c.args.position.0;
       marks = marked_law c.args.self c.args.position.0;
     }
