@@ -15,13 +15,13 @@ returns c =
     let activations = c.args.activations.now in
     let ups = c.args.ups.now in
     let downs = c.args.downs.now in
-    let course = c.rose-and-fell-rose in
+    let course = c.rose_and_fell-rose in
     let f : Facts =
     record {
       spot = spot;
-      up_price = c.balancing-price.result;
-      down_price = c.balancing-price-2.result;
-      middle = c.standing-middle.result;
+      up_price = c.balancing_price.result;
+      down_price = c.balancing_price-2.result;
+      middle = c.standing_middle.result;
       net_energy = c.net_energy_is.result;
       rose = course.result.0;
       fell = course.result.1;
@@ -31,9 +31,9 @@ returns c =
     let told : Told minutes spot hour activations ups downs f =
     record {
       same_spot = refl;
-      up_price_is = c.balancing-price.ensures.reading;
-      down_price_is = c.balancing-price-2.ensures.reading;
-      middle_price = c.standing-middle.ensures.reading;
+      up_price_is = c.balancing_price.ensures.reading;
+      down_price_is = c.balancing_price-2.ensures.reading;
+      middle_price = c.standing_middle.ensures.reading;
       net = c.net_energy_is.ensures;
       rises = λ short. (course.ensures.reading short).0;
       falls = λ short. (course.ensures.reading short).1;
@@ -41,8 +41,8 @@ returns c =
       downward = c.went-2.ensures.reading;
     } in
     let exact = λ (short : Few activations).
-    together minutes spot hour activations ups downs _ _ _ _ _ _ _ c.balancing-price.ensures.value c.balancing-price-2.ensures.value
-    c.standing-middle.ensures.value (c.net_energy_is.ensures.exact short) (course.ensures.value short)
+    together minutes spot hour activations ups downs _ _ _ _ _ _ _ c.balancing_price.ensures.value c.balancing_price-2.ensures.value
+    c.standing_middle.ensures.value (c.net_energy_is.ensures.exact short) (course.ensures.value short)
     c.went.ensures.value c.went-2.ensures.value in
     record {
       exact = exact;

@@ -9,7 +9,7 @@ pub returns : goal.returns
 returns c =
     let f = metered c.args.day.now in
     whole_length (day_text f) (in_turn (hour_text f) f.opening.hours) (in_turn (party_text f) f.parties) (operator_text f) _ _ _ _
-    (c.line-length-first.ensures.value ∙ ap length (day_line f _ c.day-fields.ensures))
-    c.hours-length.ensures.value
-    c.parties-length.ensures.value
-    (c.line-length-last.ensures.value ∙ ap length (operator_line f _ c.operator-fields.ensures))
+    (c.line_length-first.ensures.value ∙ ap length (day_line f _ c.day_fields.ensures))
+    c.hours_length.ensures.value
+    c.parties_length.ensures.value
+    (c.line_length-last.ensures.value ∙ ap length (operator_line f _ c.operator_fields.ensures))

@@ -3,8 +3,8 @@ use Rattle.std.proofs.lemmas.Fmt.{decimal_digit, decimal_nonempty}
 use Rattle.writers.proofs.Digits.{one_fewer, digits_more, digits_all}
 use Rattle.writers.proofs.set_digits.Goals as goal
 
-pub overflow-sub-at : goal.overflow-sub-at
-overflow-sub-at c = omega (arith, decimal_nonempty c.loop-rest.rest (omega arith))
+pub overflow_sub-at : goal.overflow_sub-at
+overflow_sub-at c = omega (arith, decimal_nonempty c.loop-rest.rest (omega arith))
 
 pub bounds-text-at : goal.bounds-text-at
 bounds-text-at c = omega (arith, decimal_nonempty c.loop-rest.rest (omega arith))
@@ -21,8 +21,8 @@ loop-rest-preserved c =
       digits_more c.loop-rest.rest c.loop-rest.at c.loop-rest.text _ (omega arith) small some within c.loop-rest.invariant.3,
     )
 
-pub overflow-sub-at-2 : goal.overflow-sub-at-2
-overflow-sub-at-2 c = omega (arith, decimal_nonempty c.loop-rest.rest (omega arith))
+pub overflow_sub-at-2 : goal.overflow_sub-at-2
+overflow_sub-at-2 c = omega (arith, decimal_nonempty c.loop-rest.rest (omega arith))
 
 pub bounds-text-at-2 : goal.bounds-text-at-2
 bounds-text-at-2 c = omega (arith, decimal_nonempty c.loop-rest.rest (omega arith))

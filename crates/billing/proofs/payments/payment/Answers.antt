@@ -6,8 +6,8 @@ use Rattle.billing.proofs.Wide.{Reads, from32, from64, back, fits, reads_mul, re
 use Rattle.billing.proofs.payments.payment.Goals as goal
 use Rattle.billing.proofs.payments.payment.Goals.{in-Up, in-Down}
 
-price : (c : goal.After-from) → Reads (2 ^ 31) c.from.result c.activation-price-price.result.0
-price c = let f : SFits w32 c.activation-price-price.result.0 = search rules in from32 _ _ f c.from.ensures
+price : (c : goal.After-from) → Reads (2 ^ 31) c.from.result c.activation_price-price.result.0
+price c = let f : SFits w32 c.activation_price-price.result.0 = search rules in from32 _ _ f c.from.ensures
 
 energy : (c : goal.After-from) → c.from-energy.result ≡ pos (energy_of c.args.activation.now)
 energy c =
@@ -20,8 +20,8 @@ turned c =
       | in-Down w ↦ signed_down _ _ _ _ w.in-Down.is (sym c.match-activation.signed-is ∙ w.signed-is) (energy c) c.energy.ensures.bound
     ]
 
-pub overflow-mul-result : goal.overflow-mul-result
-overflow-mul-result c =
+pub overflow_mul-result : goal.overflow_mul-result
+overflow_mul-result c =
     fits (2 ^ 66) _ _ (omega arith)
     (reads_mul (2 ^ 35) (2 ^ 31) _ _ _ _ (record { is = c.match-activation.signed-is ∙ (turned c).is; near = (turned c).near }) (back (2 ^ 31) _ _ (omega arith) (price c)))
 
@@ -31,6 +31,6 @@ returns c =
     back (2 ^ 66) _ _ (omega arith)
     (reads_mul (2 ^ 35) (2 ^ 31) _ _ _ _ (record { is = c.match-activation.signed-is ∙ (turned c).is; near = (turned c).near }) (back (2 ^ 31) _ _ (omega arith) (price c))) in
     record {
-      value = product.is ∙ payment_is c.args.minutes c.args.facts.now c.args.activation.now c.activation-price-price.result _ _ c.activation-price-price.ensures refl refl;
+      value = product.is ∙ payment_is c.args.minutes c.args.facts.now c.args.activation.now c.activation_price-price.result _ _ c.activation_price-price.ensures refl refl;
       bound = reads_near _ _ _ product;
     }

@@ -7,27 +7,27 @@ use Rattle.calendar.proofs.Date.hours.Goals as goal
 ruled : (date : Date) (h : ℕ) → h ≡ hours_of date → DayHours date h
 ruled date h e = subst (DayHours date) (sym e) (hours_rule date)
 
-pub returns-then-not-is-covered : goal.returns-then-not-is-covered
-returns-then-not-is-covered c =
-    let e = none c.args.self (sym c.if-not-is-covered.ensures) in
+pub returns-then-not-is_covered : goal.returns-then-not-is_covered
+returns-then-not-is_covered c =
+    let e = none c.args.self (sym c.if-not-is_covered.ensures) in
     record { value = e; rule = ruled _ _ e }
 
-pub is-last-sunday-of-requires : goal.is-last-sunday-of-requires
-is-last-sunday-of-requires c =
-    let k = covered_yes c.args.self (sym c.if-not-is-covered.ensures) in omega arith
+pub is_last_sunday_of-requires : goal.is_last_sunday_of-requires
+is_last_sunday_of-requires c =
+    let k = covered_yes c.args.self (sym c.if-not-is_covered.ensures) in omega arith
 
-pub returns-then-is-last-sunday-of : goal.returns-then-is-last-sunday-of
-returns-then-is-last-sunday-of c =
-    let e = on_march c.args.self (sym c.if-not-is-covered.ensures) (sym c.if-is-last-sunday-of.ensures) in
+pub returns-then-is_last_sunday_of : goal.returns-then-is_last_sunday_of
+returns-then-is_last_sunday_of c =
+    let e = on_march c.args.self (sym c.if-not-is_covered.ensures) (sym c.if-is_last_sunday_of.ensures) in
     record { value = e; rule = ruled _ _ e }
 
-pub is-last-sunday-of-requires-2 : goal.is-last-sunday-of-requires-2
-is-last-sunday-of-requires-2 c =
-    let k = covered_yes c.args.self (sym c.if-not-is-covered.ensures) in omega arith
+pub is_last_sunday_of-requires-2 : goal.is_last_sunday_of-requires-2
+is_last_sunday_of-requires-2 c =
+    let k = covered_yes c.args.self (sym c.if-not-is_covered.ensures) in omega arith
 
-pub returns-then-is-last-sunday-of-2 : goal.returns-then-is-last-sunday-of-2
-returns-then-is-last-sunday-of-2 c =
-    let e = on_october c.args.self (sym c.if-not-is-covered.ensures) (sym c.if-is-last-sunday-of.ensures) (sym c.if-is-last-sunday-of-2.ensures) in
+pub returns-then-is_last_sunday_of-2 : goal.returns-then-is_last_sunday_of-2
+returns-then-is_last_sunday_of-2 c =
+    let e = on_october c.args.self (sym c.if-not-is_covered.ensures) (sym c.if-is_last_sunday_of.ensures) (sym c.if-is_last_sunday_of-2.ensures) in
     record { value = e; rule = ruled _ _ e }
 
 pub returns : goal.returns

@@ -6,11 +6,11 @@ use Rattle.calendar.proofs.DayTests.{hours_most}
 use Rattle.calendar.proofs.Replies.{within, instant}
 use Rattle.calendar.proofs.Date.start_of.Goals as goal
 
-pub overflow-mul-result : goal.overflow-mul-result
-overflow-mul-result c = let most = hours_most c.args.self in omega (arith, ints)
+pub overflow_mul-result : goal.overflow_mul-result
+overflow_mul-result c = let most = hours_most c.args.self in omega (arith, ints)
 
-pub overflow-add-result : goal.overflow-add-result
-overflow-add-result c = let most = hours_most c.args.self in omega (arith, ints)
+pub overflow_add-result : goal.overflow_add-result
+overflow_add-result c = let most = hours_most c.args.self in omega (arith, ints)
 
 pub returns : goal.returns
 returns c =

@@ -7,8 +7,8 @@ pub loop-m-init : goal.loop-m-init
 unfolding days_to_month
 loop-m-init c = (refl, omega arith)
 
-pub overflow-add-days : goal.overflow-add-days
-overflow-add-days c = let most = month_most (leap_year c.args.year) c.loop-m.m in omega arith
+pub overflow_add-days : goal.overflow_add-days
+overflow_add-days c = let most = month_most (leap_year c.args.year) c.loop-m.m in omega arith
 
 pub loop-m-preserved : goal.loop-m-preserved
 loop-m-preserved c =

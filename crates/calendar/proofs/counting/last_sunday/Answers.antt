@@ -3,14 +3,14 @@ use Rattle.calendar.specs.Dates.{leap_year}
 use Rattle.calendar.proofs.Months.{month_least, month_most}
 use Rattle.calendar.proofs.counting.last_sunday.Goals as goal
 
-pub day-number-requires : goal.day-number-requires
-day-number-requires c =
+pub day_number-requires : goal.day_number-requires
+day_number-requires c =
     let least = month_least (leap_year c.args.year) c.args.month c.requires.months.0 c.requires.months.1 in
     let most = month_most (leap_year c.args.year) c.args.month in
     omega arith
 
-pub overflow-sub-result : goal.overflow-sub-result
-overflow-sub-result c =
+pub overflow_sub-result : goal.overflow_sub-result
+overflow_sub-result c =
     let least = month_least (leap_year c.args.year) c.args.month c.requires.months.0 c.requires.months.1 in
     omega arith
 

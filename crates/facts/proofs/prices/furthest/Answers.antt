@@ -2,7 +2,7 @@ use Rattle.std.proofs.Common.{sym, ◌∙◌}
 use Rattle.facts.specs.Prices.{sets_price}
 use Rattle.facts.proofs.Setting.{keeps, takes}
 use Rattle.facts.proofs.prices.furthest.Goals as goal
-use Rattle.facts.proofs.prices.furthest.Goals.{then-sets-price, else-sets-price}
+use Rattle.facts.proofs.prices.furthest.Goals.{then-sets_price, else-sets_price}
 
 pub loop-activation-preserved : goal.loop-activation-preserved
 loop-activation-preserved c =
@@ -10,13 +10,13 @@ loop-activation-preserved c =
     let counts = sets_price c.args.minutes c.args.hour direction in
     let activations = c.args.activations.now in
     let n = c.loop-activation.activation-index in
-    elim c.if-sets-price.branch [
+    elim c.if-sets_price.branch [
       | then-sets-price w ↦
-          let test = sym c.sets-price.ensures ∙ w.if-sets-price.true in
+          let test = sym c.sets_price.ensures ∙ w.if-sets_price.true in
           let more = takes direction counts activations n c.loop-activation.so_far w.further.result c.loop-activation.invariant test w.further.ensures in
-          simp w.so-far-is more
+          simp w.so_far-is more
       | else-sets-price w ↦
-          let test = sym c.sets-price.ensures ∙ w.if-sets-price.false in
+          let test = sym c.sets_price.ensures ∙ w.if-sets_price.false in
           let more = keeps direction counts activations n c.loop-activation.so_far c.loop-activation.invariant test in
-          simp w.so-far-is more
+          simp w.so_far-is more
     ]

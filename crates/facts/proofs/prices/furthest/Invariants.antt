@@ -3,4 +3,4 @@ use Rattle.facts.proofs.prices.furthest.Given as goal
 
 abbrev pub invariant-loop-activation : goal.invariant-loop-activation
 invariant-loop-activation l =
-    ExtremeOf (NoFurther l.direction) (sets_price l.minutes l.hour l.direction) l.activations l.activation-index l.so-far
+    ExtremeOf (NoFurther l.direction) (sets_price l.minutes l.hour l.direction) l.activations l.activation-index l.so_far

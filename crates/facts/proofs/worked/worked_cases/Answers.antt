@@ -7,10 +7,10 @@ use Rattle.facts.proofs.worked.worked_cases.Goals as goal
 pub returns : goal.returns
 unfolding energy rose fell
 returns c =
-    row c.facts-between.ensures
-    (row (one c.upward.ensures c.facts-with-one.ensures)
-    (row (one c.upward-2.ensures c.facts-with-one-2.ensures)
-    (row (two c.upward-3.ensures c.downward.ensures c.facts-with-two.ensures)
-    (row (two c.downward-2.ensures c.upward-4.ensures c.facts-with-two-2.ensures)
-    (row (two c.upward-5.ensures c.downward-3.ensures c.facts-with-two-3.ensures)
-    (row (one c.example.ensures c.facts-with-one-3.ensures) refl))))))
+    row c.facts_between.ensures
+    (row (one c.upward.ensures c.facts_with_one.ensures)
+    (row (one c.upward-2.ensures c.facts_with_one-2.ensures)
+    (row (two c.upward-3.ensures c.downward.ensures c.facts_with_two.ensures)
+    (row (two c.downward-2.ensures c.upward-4.ensures c.facts_with_two-2.ensures)
+    (row (two c.upward-5.ensures c.downward-3.ensures c.facts_with_two-3.ensures)
+    (row (one c.example.ensures c.facts_with_one-3.ensures) refl))))))

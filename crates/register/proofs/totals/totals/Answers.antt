@@ -14,16 +14,16 @@ loop-place-preserved c =
     let within = c.loop-place-test.true in
     elim c.if-counts.branch [
       | then-counts+in-Up w ↦ (
-        running_adds _ Up _ _ _ _ w.saturating-add-up.result w.energy-energy.result.0 c.loop-place.invariant.0 within
+        running_adds _ Up _ _ _ _ w.saturating_add-up.result w.energy-energy.result.0 c.loop-place.invariant.0 within
             (sym c.counts.ensures ∙ w.if-counts.true) w.in-Up.is w.energy-energy.ensures.value
-            w.energy-energy.ensures.bound w.saturating-add-up.ensures (search rules) w.up-is,
+            w.energy-energy.ensures.bound w.saturating_add-up.ensures (search rules) w.up-is,
         running_keeps _ Down _ _ _ _ c.loop-place.invariant.1 within (adds_other counts Down a (ap (same_direction Down) w.in-Up.is)) w.down-is,
       )
       | then-counts+in-Down w ↦ (
         running_keeps _ Up _ _ _ _ c.loop-place.invariant.0 within (adds_other counts Up a (ap (same_direction Up) w.in-Down.is)) w.up-is,
-        running_adds _ Down _ _ _ _ w.saturating-add-down.result w.energy-energy.result.0 c.loop-place.invariant.1 within
+        running_adds _ Down _ _ _ _ w.saturating_add-down.result w.energy-energy.result.0 c.loop-place.invariant.1 within
             (sym c.counts.ensures ∙ w.if-counts.true) w.in-Down.is w.energy-energy.ensures.value
-            w.energy-energy.ensures.bound w.saturating-add-down.ensures (search rules) w.down-is,
+            w.energy-energy.ensures.bound w.saturating_add-down.ensures (search rules) w.down-is,
       )
       | else-counts w ↦
           let off = sym c.counts.ensures ∙ w.if-counts.false in (

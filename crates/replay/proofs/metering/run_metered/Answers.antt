@@ -21,9 +21,9 @@ loop-call-preserved g c =
     let items = c.in-ok-push.ensures.items in
     let k = c.loop-call.call-index in
     let answers = vec_items c.loop-call.answers in
-    let longer : length (vec_items c.push.new.self) ≡ k + 1 = let n = length_push answers c.make-metered.result in let l = ap length items in omega (arith, n, l, c.loop-call.invariant.0) in (
+    let longer : length (vec_items c.push.new.self) ≡ k + 1 = let n = length_push answers c.make_metered.result in let l = ap length items in omega (arith, n, l, c.loop-call.invariant.0) in (
       longer,
       λ opening before is lawful.
-          one_more (metered_row {P = g.row.P.Denot}) (metered_entry g.P.Policy.meaning) opening c.args.calls.now answers (vec_items c.push.new.self) before (metered c.loop-call.day) (metered c.make-metered.new.day) k c.call-item.result c.make-metered.result
-          c.loop-call.invariant.0 (omega (arith, c.loop-call-test.true)) items (subst (λ x. Made (metered_row (metered c.loop-call.day) x) (metered_entry g.P.Policy.meaning x) c.make-metered.result (metered c.loop-call.day) (metered c.make-metered.new.day)) c.call-item.is c.make-metered.ensures) (c.loop-call.invariant.1 opening before is lawful),
+          one_more (metered_row {P = g.row.P.Denot}) (metered_entry g.P.Policy.meaning) opening c.args.calls.now answers (vec_items c.push.new.self) before (metered c.loop-call.day) (metered c.make_metered.new.day) k c.call-item.result c.make_metered.result
+          c.loop-call.invariant.0 (omega (arith, c.loop-call-test.true)) items (subst (λ x. Made (metered_row (metered c.loop-call.day) x) (metered_entry g.P.Policy.meaning x) c.make_metered.result (metered c.loop-call.day) (metered c.make_metered.new.day)) c.call-item.is c.make_metered.ensures) (c.loop-call.invariant.1 opening before is lawful),
     )

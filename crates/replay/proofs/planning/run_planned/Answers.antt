@@ -21,9 +21,9 @@ loop-call-preserved c =
     let items = c.in-ok-push.ensures.items in
     let k = c.loop-call.call-index in
     let answers = vec_items c.loop-call.answers in
-    let longer : length (vec_items c.push.new.self) ≡ k + 1 = let n = length_push answers c.make-planned.result in let l = ap length items in omega (arith, n, l, c.loop-call.invariant.0) in (
+    let longer : length (vec_items c.push.new.self) ≡ k + 1 = let n = length_push answers c.make_planned.result in let l = ap length items in omega (arith, n, l, c.loop-call.invariant.0) in (
       longer,
       λ opening before is lawful.
-          one_more planned_row planned_entry opening c.args.calls.now answers (vec_items c.push.new.self) before (planned c.loop-call.day) (planned c.make-planned.new.day) k Enter c.make-planned.result
-          c.loop-call.invariant.0 (omega (arith, c.loop-call-test.true)) items c.make-planned.ensures (c.loop-call.invariant.1 opening before is lawful),
+          one_more planned_row planned_entry opening c.args.calls.now answers (vec_items c.push.new.self) before (planned c.loop-call.day) (planned c.make_planned.new.day) k Enter c.make_planned.result
+          c.loop-call.invariant.0 (omega (arith, c.loop-call-test.true)) items c.make_planned.ensures (c.loop-call.invariant.1 opening before is lawful),
     )

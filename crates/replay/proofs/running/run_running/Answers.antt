@@ -21,9 +21,9 @@ loop-call-preserved c =
     let items = c.in-ok-push.ensures.items in
     let k = c.loop-call.call-index in
     let answers = vec_items c.loop-call.answers in
-    let longer : length (vec_items c.push.new.self) ≡ k + 1 = let n = length_push answers c.make-running.result in let l = ap length items in omega (arith, n, l, c.loop-call.invariant.0) in (
+    let longer : length (vec_items c.push.new.self) ≡ k + 1 = let n = length_push answers c.make_running.result in let l = ap length items in omega (arith, n, l, c.loop-call.invariant.0) in (
       longer,
       λ opening before is lawful.
-          one_more running_row running_entry opening c.args.calls.now answers (vec_items c.push.new.self) before (running c.loop-call.day) (running c.make-running.new.day) k (Plan (record { 0 = 0 }) (record { 0 = 0 }) (record { 0 = pos 0 })) c.make-running.result
-          c.loop-call.invariant.0 (omega (arith, c.loop-call-test.true)) items c.make-running.ensures (c.loop-call.invariant.1 opening before is lawful),
+          one_more running_row running_entry opening c.args.calls.now answers (vec_items c.push.new.self) before (running c.loop-call.day) (running c.make_running.new.day) k (Plan (record { 0 = 0 }) (record { 0 = 0 }) (record { 0 = pos 0 })) c.make_running.result
+          c.loop-call.invariant.0 (omega (arith, c.loop-call-test.true)) items c.make_running.ensures (c.loop-call.invariant.1 opening before is lawful),
     )

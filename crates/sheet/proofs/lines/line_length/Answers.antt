@@ -4,7 +4,7 @@ use Rattle.sheet.proofs.lines.line_length.Goals as goal
 
 pub loop-field-preserved : goal.loop-field-preserved
 loop-field-preserved c = (
-  length_more c.args.name.now c.args.fields.now c.loop-field.field-index _ _ _ c.loop-field-test.true c.loop-field.invariant.0 c.field-length.ensures.value,
+  length_more c.args.name.now c.args.fields.now c.loop-field.field-index _ _ _ c.loop-field-test.true c.loop-field.invariant.0 c.field_length.ensures.value,
   omega arith,
 )
 

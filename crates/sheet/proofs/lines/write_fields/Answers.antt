@@ -7,8 +7,8 @@ loop-field-init c = (start _, omega arith)
 
 pub loop-field-preserved : goal.loop-field-preserved
 loop-field-preserved c =
-    fields_step c.args.fields.now c.loop-field.field-index _ c.args.part.now c.loop-field.part _ c.write-bytes-at.new.part c.write-field-at.new.part c.loop-field.at c.write-bytes-at.result c.write-field-at.result
-    c.loop-field-test.true c.requires c.loop-field.invariant.0 c.write-bytes-at.ensures.count c.write-bytes-at.ensures.bytes refl c.write-field-at.ensures.count c.write-field-at.ensures.bytes
+    fields_step c.args.fields.now c.loop-field.field-index _ c.args.part.now c.loop-field.part _ c.write_bytes-at.new.part c.write_field-at.new.part c.loop-field.at c.write_bytes-at.result c.write_field-at.result
+    c.loop-field-test.true c.requires c.loop-field.invariant.0 c.write_bytes-at.ensures.count c.write_bytes-at.ensures.bytes refl c.write_field-at.ensures.count c.write_field-at.ensures.bytes
 
 pub returns : goal.returns
 returns c =

@@ -6,6 +6,6 @@ use Rattle.sheet.proofs.parties.parties_length.Goals as goal
 
 pub loop-party-preserved : goal.loop-party-preserved
 loop-party-preserved c = (
-  turn_length (party_text (metered c.args.day.now)) c.loop-party.party _ _ c.loop-party.invariant.0 c.party-length-total.ensures.value,
+  turn_length (party_text (metered c.args.day.now)) c.loop-party.party _ _ c.loop-party.invariant.0 c.party_length-total.ensures.value,
   omega arith,
 )

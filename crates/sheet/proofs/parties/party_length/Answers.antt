@@ -7,8 +7,8 @@ pub returns-in-Some : goal.returns-in-Some
 unfolding party_text
 returns-in-Some c =
     record {
-      value = c.line-length.ensures.value ∙ ap (λ o. length (line_or_none party_name o)) c.in-Some.ensures;
-      most = c.line-length.ensures.most;
+      value = c.line_length.ensures.value ∙ ap (λ o. length (line_or_none party_name o)) c.in-Some.ensures;
+      most = c.line_length.ensures.most;
     }
 
 pub returns-in-None : goal.returns-in-None

@@ -6,11 +6,11 @@ use Rattle.billing.proofs.Exact.{sums, booked_exact, booked_accepted, booked_sma
 use Rattle.billing.proofs.Wide.{two_fits, three_fits, three_is}
 use Rattle.billing.proofs.book.HourBook.due.Goals as goal
 
-pub overflow-add-imbalances : goal.overflow-add-imbalances
-overflow-add-imbalances c = two_fits _ _ c.priced.ensures.bound c.priced-2.ensures.bound
+pub overflow_add-imbalances : goal.overflow_add-imbalances
+overflow_add-imbalances c = two_fits _ _ c.priced.ensures.bound c.priced-2.ensures.bound
 
-pub overflow-add-imbalances-2 : goal.overflow-add-imbalances-2
-overflow-add-imbalances-2 c = three_fits _ _ _ c.priced.ensures.bound c.priced-2.ensures.bound c.regulation-to.ensures.bound
+pub overflow_add-imbalances-2 : goal.overflow_add-imbalances-2
+overflow_add-imbalances-2 c = three_fits _ _ _ c.priced.ensures.bound c.priced-2.ensures.bound c.regulation_to.ensures.bound
 
 pub returns : goal.returns
 returns c =
@@ -18,8 +18,8 @@ returns c =
     let f : SFits w64 c.narrowed.result = search rules in
     let is =
     to_z-of_z w64 _ f ∙ c.narrowed.ensures
-    ∙ ap capped (three_is _ _ _ c.priced.ensures.bound c.priced-2.ensures.bound c.regulation-to.ensures.bound
-    ∙ sums _ _ _ _ _ c.imbalance-production.result.0 c.imbalance-consumption.result.0 _ _ _ c.priced.ensures.value c.priced-2.ensures.value c.imbalance-production.ensures.value c.imbalance-consumption.ensures.value (c.regulation-to.ensures.value c.args.metered)) in
+    ∙ ap capped (three_is _ _ _ c.priced.ensures.bound c.priced-2.ensures.bound c.regulation_to.ensures.bound
+    ∙ sums _ _ _ _ _ c.imbalance-production.result.0 c.imbalance-consumption.result.0 _ _ _ c.priced.ensures.value c.priced-2.ensures.value c.imbalance-production.ensures.value c.imbalance-consumption.ensures.value (c.regulation_to.ensures.value c.args.metered)) in
     record {
       value = is;
       exact = λ one other all. is ∙ booked_exact c.args.minutes c.args.facts.now c.args.prices.now hour c.args.party.0 one other all;

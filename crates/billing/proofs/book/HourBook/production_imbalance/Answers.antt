@@ -12,8 +12,8 @@ supplement : (c : goal.After-from-3) → Reads (2 ^ 66) c.from-3.result c.supple
 supplement c =
     let f : SFits w64 c.supplement-supplement.result.0 = search rules in looser _ _ (from64 _ _ f c.from-3.ensures)
 
-pub overflow-sub-result-2 : goal.overflow-sub-result-2
-overflow-sub-result-2 c =
+pub overflow_sub-result-2 : goal.overflow_sub-result-2
+overflow_sub-result-2 c =
     without_fits (2 ^ 64) _ _ (apart _ _ _ _ (produced c) (plan c)) _ _ (supplement c) (omega arith)
 
 pub returns : goal.returns

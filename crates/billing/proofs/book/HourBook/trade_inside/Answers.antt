@@ -15,8 +15,8 @@ energy c = let f : SFits w64 c.counted-energy.result.0 = search rules in from64 
 few : (c : goal.After-from-total) → c.loop-number.number * 2 ^ 63 + 2 ^ 63 < 2 ^ 127
 few c = let most : c.args.self.now.parties < 2 ^ 64 = search rules in omega (arith, c.loop-number-test.true)
 
-pub overflow-add-total : goal.overflow-add-total
-overflow-add-total c = total_fits c.loop-number.number _ _ _ c.loop-number.invariant.near (energy c) (few c)
+pub overflow_add-total : goal.overflow_add-total
+overflow_add-total c = total_fits c.loop-number.number _ _ _ c.loop-number.invariant.near (energy c) (few c)
 
 pub loop-number-preserved : goal.loop-number-preserved
 loop-number-preserved c =

@@ -11,21 +11,21 @@ use Rattle.billing.proofs.book.HourBook.trade_outside.Goals as goal
 pub loop-number-init : goal.loop-number-init
 loop-number-init c = running_none _
 
-bought : (c : goal.After-from-bought) → Reads (2 ^ 63) (pos 0 -ℤ to_z w128 (of_z w128 c.from-bought.result)) (neg_ℤ c.notice-outside-buys.result.0)
+bought : (c : goal.After-from-bought) → Reads (2 ^ 63) (pos 0 -ℤ to_z w128 (of_z w128 c.from-bought.result)) (neg_ℤ c.notice-outside_buys.result.0)
 bought c =
-    let f : SFits w64 c.notice-outside-buys.result.0 = search rules in
+    let f : SFits w64 c.notice-outside_buys.result.0 = search rules in
     reads_neg (2 ^ 63) _ _ (omega arith) (from64 _ _ f c.from-bought.ensures)
 
 few : (c : goal.After-from-bought) → c.loop-number.number * 2 ^ 63 + 2 ^ 63 < 2 ^ 127
 few c = omega (arith, c.loop-number-test.true)
 
-pub overflow-add-total : goal.overflow-add-total
-overflow-add-total c = total_fits c.loop-number.number _ _ _ c.loop-number.invariant.near (bought c) (few c)
+pub overflow_add-total : goal.overflow_add-total
+overflow_add-total c = total_fits c.loop-number.number _ _ _ c.loop-number.invariant.near (bought c) (few c)
 
 pub loop-number-preserved : goal.loop-number-preserved
 loop-number-preserved c =
-    running_more _ c.loop-number.number _ _ (neg_ℤ c.notice-outside-buys.result.0) c.loop-number.invariant
-    (ap neg_ℤ c.notice-outside-buys.ensures) (bought c).near (total_is c.loop-number.number _ _ _ c.loop-number.invariant.near (bought c) (few c))
+    running_more _ c.loop-number.number _ _ (neg_ℤ c.notice-outside_buys.result.0) c.loop-number.invariant
+    (ap neg_ℤ c.notice-outside_buys.ensures) (bought c).near (total_is c.loop-number.number _ _ _ c.loop-number.invariant.near (bought c) (few c))
 
 pub returns : goal.returns
 returns c =

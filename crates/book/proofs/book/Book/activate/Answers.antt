@@ -13,14 +13,14 @@ pub invariant-of-self-2 : goal.invariant-of-self-2
 invariant-of-self-2 c =
     let b = c.args.self.now in
     let t = times b.timetable in
-    let bid = c.in-Some-take-first.bid in
-    let first = c.args.first-minute in
-    let last = c.args.last-minute in
-    let found = c.in-Some-take-first.ensures in
+    let bid = c.in-Some-take_first.bid in
+    let first = c.args.first_minute in
+    let last = c.args.last_minute in
+    let found = c.in-Some-take_first.ensures in
     let none =
-    sym (c.in-default.ensures ∙ ap (λ x. activate_row t c.args.hour.0 first last x c.is-some-found.result) c.has-room-room.ensures
-    ∙ ap (activate_row t c.args.hour.0 first last _) (c.is-some-found.ensures ∙ ap is_some c.is_first_free.ensures.value)) in (
-      activated_sound b.timetable b.positions b.notices b.ladder b.register b.sound c.take-first.new.self c.enter.new.self c.args.hour c.args.direction first last bid (pos (energy_of (listed_of bid c.args.hour first last))) c.enter.result none
+    sym (c.in-default.ensures ∙ ap (λ x. activate_row t c.args.hour.0 first last x c.is_some-found.result) c.has_room-room.ensures
+    ∙ ap (activate_row t c.args.hour.0 first last _) (c.is_some-found.ensures ∙ ap is_some c.is_first_free.ensures.value)) in (
+      activated_sound b.timetable b.positions b.notices b.ladder b.register b.sound c.take_first.new.self c.enter.new.self c.args.hour c.args.direction first last bid (pos (energy_of (listed_of bid c.args.hour first last))) c.enter.result none
           found.value found.side found.after refl
           (subst (λ a. Outcome (register_row (registered b.register)) c.enter.result (registered c.enter.new.self ≡ registered b.register) (λ _. registered c.enter.new.self ≡ with_activation a (registered b.register))) c.listed-activation.ensures c.enter.ensures),
       tt,
@@ -30,13 +30,13 @@ pub returns : goal.returns
 returns c stage settled =
     let b = c.args.self.now in
     let t = times b.timetable in
-    let bid = c.in-Some-take-first.bid in
-    let first = c.args.first-minute in
-    let last = c.args.last-minute in
-    let found = c.in-Some-take-first.ensures in
+    let bid = c.in-Some-take_first.bid in
+    let first = c.args.first_minute in
+    let last = c.args.last_minute in
+    let found = c.in-Some-take_first.ensures in
     let none =
-    sym (c.in-default.ensures ∙ ap (λ x. activate_row t c.args.hour.0 first last x c.is-some-found.result) c.has-room-room.ensures
-    ∙ ap (activate_row t c.args.hour.0 first last _) (c.is-some-found.ensures ∙ ap is_some c.is_first_free.ensures.value)) in
-    activated stage settled b.timetable b.positions b.notices b.ladder c.take-first.new.self b.register c.enter.new.self c.args.hour c.args.direction first last bid c.energy.result.0 c.enter.result none
+    sym (c.in-default.ensures ∙ ap (λ x. activate_row t c.args.hour.0 first last x c.is_some-found.result) c.has_room-room.ensures
+    ∙ ap (activate_row t c.args.hour.0 first last _) (c.is_some-found.ensures ∙ ap is_some c.is_first_free.ensures.value)) in
+    activated stage settled b.timetable b.positions b.notices b.ladder c.take_first.new.self b.register c.enter.new.self c.args.hour c.args.direction first last bid c.energy.result.0 c.enter.result none
     found.value found.side found.after (c.energy.ensures.value ∙ ap (λ a. pos (energy_of a)) c.listed-activation.ensures)
     (subst (λ a. Outcome (register_row (registered b.register)) c.enter.result (registered c.enter.new.self ≡ registered b.register) (λ _. registered c.enter.new.self ≡ with_activation a (registered b.register))) c.listed-activation.ensures c.enter.ensures)

@@ -8,11 +8,11 @@ use Rattle.book.proofs.book.Book.notice.Goals as goal
 pub invariant-of-self : goal.invariant-of-self
 invariant-of-self c =
     let b = c.args.self.now in
-    let none = sym (c.in-default.ensures ∙ ap (notice_row (times b.timetable) c.args.notice) c.has-place-for-room.ensures) in
+    let none = sym (c.in-default.ensures ∙ ap (notice_row (times b.timetable) c.args.notice) c.has_place_for-room.ensures) in
     (noticed_sound b.timetable b.positions b.notices b.ladder b.register b.sound c.take.new.self c.args.notice c.take.result none c.take.ensures.outcome, tt)
 
 pub returns : goal.returns
 returns c stage settled =
     let b = c.args.self.now in
-    let none = sym (c.in-default.ensures ∙ ap (notice_row (times b.timetable) c.args.notice) c.has-place-for-room.ensures) in
+    let none = sym (c.in-default.ensures ∙ ap (notice_row (times b.timetable) c.args.notice) c.has_place_for-room.ensures) in
     noticed stage settled b.timetable b.positions b.notices c.take.new.self b.ladder b.register c.args.notice c.take.result none c.take.ensures.outcome

@@ -12,13 +12,13 @@ invariant-of-self c =
     let t = times b.timetable in
     let none = sym c.in-default.ensures in
     let unsettled = (reading_accepted t c.args.hour.0 c.args.party.0 c.args.energy.0 c.args.settled none).unsettled in (
-      metered_sound b.timetable b.positions b.notices b.ladder b.register b.sound c.set-reading.new.self c.args.meter c.args.hour.0 c.args.party.0 c.args.energy.0
-          (ap (reading_row t c.args.hour.0 c.args.party.0 c.args.energy.0) (sym unsettled) ∙ none) c.set-reading.ensures,
+      metered_sound b.timetable b.positions b.notices b.ladder b.register b.sound c.set_reading.new.self c.args.meter c.args.hour.0 c.args.party.0 c.args.energy.0
+          (ap (reading_row t c.args.hour.0 c.args.party.0 c.args.energy.0) (sym unsettled) ∙ none) c.set_reading.ensures,
       tt,
     )
 
 pub returns : goal.returns
 returns c stage prices is =
     let b = c.args.self.now in
-    metered stage prices b.timetable b.positions c.set-reading.new.self b.notices b.ladder b.register b.sound c.args.meter c.args.hour.0 c.args.party.0 c.args.energy.0
-    (ap (reading_row (times b.timetable) c.args.hour.0 c.args.party.0 c.args.energy.0) is ∙ sym c.in-default.ensures) c.set-reading.ensures
+    metered stage prices b.timetable b.positions c.set_reading.new.self b.notices b.ladder b.register b.sound c.args.meter c.args.hour.0 c.args.party.0 c.args.energy.0
+    (ap (reading_row (times b.timetable) c.args.hour.0 c.args.party.0 c.args.energy.0) is ∙ sym c.in-default.ensures) c.set_reading.ensures

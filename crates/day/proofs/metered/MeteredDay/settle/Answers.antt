@@ -19,10 +19,10 @@ returns-in-Some g c =
     let h = c.args.hour.0 in
     let t = times_of (metered_of b a) in
     let row =
-    c.settle-refusal.ensures
-    ∙ ap (λ x. settle_row (times x) h c.is-some-settled.result c.is-complete-complete.result) c.timetable.ensures
-    ∙ ap (λ x. settle_row t h x c.is-complete-complete.result) (c.is-some-settled.ensures ∙ ap is_some c.prices-of.ensures)
-    ∙ ap (settle_row t h (is_settled (metered_of b a) h)) (c.is-complete-complete.ensures Metered (settled_of a)) in
+    c.settle_refusal.ensures
+    ∙ ap (λ x. settle_row (times x) h c.is_some-settled.result c.is_complete-complete.result) c.timetable.ensures
+    ∙ ap (λ x. settle_row t h x c.is_complete-complete.result) (c.is_some-settled.ensures ∙ ap is_some c.prices_of.ensures)
+    ∙ ap (settle_row t h (is_settled (metered_of b a) h)) (c.is_complete-complete.ensures Metered (settled_of a)) in
     let f = metered_of b a in
     let m = g.P.Policy.meaning c.args.policy.now in
     refused {X = Unit} (settle_refused f h) (f ≡ f) (λ _. Lawful (Settled h m) f × (f ≡ after (Settled h m) f)) c.in-Some.refusal (sym row ∙ c.in-Some.is) refl
@@ -35,10 +35,10 @@ invariant-of-self g c =
     let h = c.args.hour.0 in
     let t = times_of (metered_of b a) in
     let row =
-    c.settle-refusal.ensures
-    ∙ ap (λ x. settle_row (times x) h c.is-some-settled.result c.is-complete-complete.result) c.timetable.ensures
-    ∙ ap (λ x. settle_row t h x c.is-complete-complete.result) (c.is-some-settled.ensures ∙ ap is_some c.prices-of.ensures)
-    ∙ ap (settle_row t h (is_settled (metered_of b a) h)) (c.is-complete-complete.ensures Metered (settled_of a)) in
+    c.settle_refusal.ensures
+    ∙ ap (λ x. settle_row (times x) h c.is_some-settled.result c.is_complete-complete.result) c.timetable.ensures
+    ∙ ap (λ x. settle_row t h x c.is_complete-complete.result) (c.is_some-settled.ensures ∙ ap is_some c.prices_of.ensures)
+    ∙ ap (settle_row t h (is_settled (metered_of b a) h)) (c.is_complete-complete.ensures Metered (settled_of a)) in
     let m = g.P.Policy.meaning c.args.policy.now in
     let none = sym row ∙ c.in-default.is in (
       settled_reckoned b a c.bill.new.accounts c.settle.new.self h c.facts-facts.result c.prices-prices.result m (g.met.P.Policy.rules c.args.policy.now) none (c.facts-facts.ensures Metered (settled_of a)) c.prices-prices.ensures
@@ -54,10 +54,10 @@ returns g c =
     let h = c.args.hour.0 in
     let t = times_of (metered_of b a) in
     let row =
-    c.settle-refusal.ensures
-    ∙ ap (λ x. settle_row (times x) h c.is-some-settled.result c.is-complete-complete.result) c.timetable.ensures
-    ∙ ap (λ x. settle_row t h x c.is-complete-complete.result) (c.is-some-settled.ensures ∙ ap is_some c.prices-of.ensures)
-    ∙ ap (settle_row t h (is_settled (metered_of b a) h)) (c.is-complete-complete.ensures Metered (settled_of a)) in
+    c.settle_refusal.ensures
+    ∙ ap (λ x. settle_row (times x) h c.is_some-settled.result c.is_complete-complete.result) c.timetable.ensures
+    ∙ ap (λ x. settle_row t h x c.is_complete-complete.result) (c.is_some-settled.ensures ∙ ap is_some c.prices_of.ensures)
+    ∙ ap (settle_row t h (is_settled (metered_of b a) h)) (c.is_complete-complete.ensures Metered (settled_of a)) in
     let m = g.P.Policy.meaning c.args.policy.now in
     let none = sym row ∙ c.in-default.is in
     settled_made b a c.bill.new.accounts c.settle.new.self h c.facts-facts.result c.prices-prices.result m (g.met.P.Policy.rules c.args.policy.now) none (c.facts-facts.ensures Metered (settled_of a)) c.prices-prices.ensures

@@ -11,4 +11,4 @@ use Rattle.day.proofs.running.RunningDay.activate.Goals as goal
 pub returns : goal.returns
 returns c =
     let f = shown Running (λ h. None) c.args.self.now.book in
-    staged {X = (Receipt × KilowattHours)} (activate_refused f c.args.hour.0 c.args.direction c.args.first-minute c.args.last-minute) (λ x. Activated c.args.hour c.args.direction c.args.first-minute c.args.last-minute x.0.0 x.1.0) c.activate.result f (shown Running (λ h. None) c.activate.new.self) (λ _. refl) (c.activate.ensures Running (λ h. None))
+    staged {X = (Receipt × KilowattHours)} (activate_refused f c.args.hour.0 c.args.direction c.args.first_minute c.args.last_minute) (λ x. Activated c.args.hour c.args.direction c.args.first_minute c.args.last_minute x.0.0 x.1.0) c.activate.result f (shown Running (λ h. None) c.activate.new.self) (λ _. refl) (c.activate.ensures Running (λ h. None))

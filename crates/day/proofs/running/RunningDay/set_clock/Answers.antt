@@ -9,4 +9,4 @@ use Rattle.day.proofs.running.RunningDay.set_clock.Goals as goal
 pub returns : goal.returns
 returns c =
     let f = shown Running (λ h. None) c.args.self.now.book in
-    staged {X = Unit} (clock_refused f c.args.instant.0) (λ _. Clock c.args.instant.0) c.set-clock.result f (shown Running (λ h. None) c.set-clock.new.self) (λ _. inr refl) (c.set-clock.ensures Running (λ h. None))
+    staged {X = Unit} (clock_refused f c.args.instant.0) (λ _. Clock c.args.instant.0) c.set_clock.result f (shown Running (λ h. None) c.set_clock.new.self) (λ _. inr refl) (c.set_clock.ensures Running (λ h. None))

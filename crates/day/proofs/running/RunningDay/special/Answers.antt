@@ -10,4 +10,4 @@ use Rattle.day.proofs.running.RunningDay.special.Goals as goal
 pub returns : goal.returns
 returns c =
     let f = shown Running (λ h. None) c.args.self.now.book in
-    staged {X = KilowattHours} (special_refused f (special_of c.args.offer c.args.first-minute c.args.last-minute)) (λ energy. Special (special_of c.args.offer c.args.first-minute c.args.last-minute) energy.0) c.special.result f (shown Running (λ h. None) c.special.new.self) (λ _. refl) (c.special.ensures Running (λ h. None))
+    staged {X = KilowattHours} (special_refused f (special_of c.args.offer c.args.first_minute c.args.last_minute)) (λ energy. Special (special_of c.args.offer c.args.first_minute c.args.last_minute) energy.0) c.special.result f (shown Running (λ h. None) c.special.new.self) (λ _. refl) (c.special.ensures Running (λ h. None))

@@ -14,7 +14,7 @@ invariant-of-self c =
     let b = c.bid-bid.result in
     let up : b.direction ≡ Up = ap (λ v. v.direction) c.bid-bid.ensures ∙ c.in-Up.is in
     let number : b.receipt.0 ≡ l.given + 1 = ap (λ v. v.receipt.0) c.bid-bid.ensures in
-    let count : length xs + length ys < 512 = let e = c.len.ensures in let f = c.if-len-ge-MOST-BIDS.false in omega arith in
+    let count : length xs + length ys < 512 = let e = c.len.ensures in let f = c.if-len-ge-MOST_BIDS.false in omega arith in
     let room : length xs < space_of l.up = let e = l.space.0 in omega arith in
     let p = put_new Up (space_of l.up) b xs us (is_ok c.put.result) l.upward (sym (ap (same_direction Up) (sym up))) room (c.put.ensures.test l.upward.0, c.put.ensures.items l.upward.0) in
     let size : length us ≤ length xs + 1 = p.size in
@@ -30,7 +30,7 @@ invariant-of-self-in-Down c =
     let b = c.bid-bid.result in
     let down : b.direction ≡ Down = ap (λ v. v.direction) c.bid-bid.ensures ∙ c.in-Down.is in
     let number : b.receipt.0 ≡ l.given + 1 = ap (λ v. v.receipt.0) c.bid-bid.ensures in
-    let count : length xs + length ys < 512 = let e = c.len.ensures in let f = c.if-len-ge-MOST-BIDS.false in omega arith in
+    let count : length xs + length ys < 512 = let e = c.len.ensures in let f = c.if-len-ge-MOST_BIDS.false in omega arith in
     let room : length ys < space_of l.down = let e = l.space.1 in omega arith in
     let p = put_new Down (space_of l.down) b ys vs (is_ok c.put-in-Down.result) l.downward (sym (ap (same_direction Down) (sym down))) room (c.put-in-Down.ensures.test l.downward.0, c.put-in-Down.ensures.items l.downward.0) in
     let size : length vs ≤ length ys + 1 = p.size in

@@ -12,8 +12,8 @@ returns-in-Some c =
     let k = c.in-Some.place in
     let bids = bids_of c.args.direction (view c.args.self.now) in
     let h : First (Free hour) bids (Some k) = subst (λ xs. First (Free hour) xs (Some k)) c.standing.ensures.value c.in-Some.ensures in
-    let value = c.take-at.ensures.value ∙ slice_get-get_or bids k no_bid h.within ∙ free_found hour bids (Some k) h in
-    record { value = value; side = first_of c.args.direction (is_free hour.0) bids c.take-at.result c.standing.ensures.side.1 value; after = c.take-at.ensures.after }
+    let value = c.take_at.ensures.value ∙ slice_get-get_or bids k no_bid h.within ∙ free_found hour bids (Some k) h in
+    record { value = value; side = first_of c.args.direction (is_free hour.0) bids c.take_at.result c.standing.ensures.side.1 value; after = c.take_at.ensures.after }
 
 pub returns-in-None : goal.returns-in-None
 returns-in-None c =

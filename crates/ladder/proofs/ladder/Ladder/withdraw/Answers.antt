@@ -15,8 +15,8 @@ returns-in-Some c =
     let k = c.in-Some.place in
     let bids = bids_of c.in-Some.direction s in
     let some = slice_get-get_or bids k no_bid at.within.0 in
-    let taking = c.take-at.ensures in
+    let taking = c.take_at.ensures in
     record {
-      value = c.ok-or.ensures.value ∙ ap (λ o. ok_or o NoSuchBid) (taking.value ∙ at.value);
-      after = taking.after ∙ withdrawn_some s c.take-at.result (standing_with r.0 s) (get_or bids k no_bid) r.0 (taking.value ∙ some) (sym at.value ∙ some) (ap (λ v. v.0) at.within.1);
+      value = c.ok_or.ensures.value ∙ ap (λ o. ok_or o NoSuchBid) (taking.value ∙ at.value);
+      after = taking.after ∙ withdrawn_some s c.take_at.result (standing_with r.0 s) (get_or bids k no_bid) r.0 (taking.value ∙ some) (sym at.value ∙ some) (ap (λ v. v.0) at.within.1);
     }

@@ -4,5 +4,5 @@ use Rattle.notices.proofs.notice.NoticeRanked.compare.Goals as goal
 pub returns : goal.returns
 returns c =
     lex_then _ _ _ _ _ _ _ c.then-2.ensures (unsigned _ _ _ c.cmp.ensures)
-    (lex_then _ _ _ _ _ _ _ c.then.ensures (unsigned _ _ _ c.cmp-by-sender.ensures)
-    (lex_last _ _ _ (unsigned _ _ _ c.cmp-by-counterparty.ensures)))
+    (lex_then _ _ _ _ _ _ _ c.then.ensures (unsigned _ _ _ c.cmp-by_sender.ensures)
+    (lex_last _ _ _ (unsigned _ _ _ c.cmp-by_counterparty.ensures)))

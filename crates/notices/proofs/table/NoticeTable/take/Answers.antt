@@ -12,7 +12,7 @@ returns-in-Some c =
     let n = c.args.notice in
     let xs = items table.notices in
     record {
-      outcome = accepted (notice_row n xs) _ _ tt (zero_row n xs (sym c.if-is-zero.ensures)) (zero_found n xs (items c.take.new.self) c.in-Some.place (sym c.if-is-zero.ensures) table.rising c.in-Some.ensures.some c.take.ensures.items);
+      outcome = accepted (notice_row n xs) _ _ tt (zero_row n xs (sym c.if-is_zero.ensures)) (zero_found n xs (items c.take.new.self) c.in-Some.place (sym c.if-is_zero.ensures) table.rising c.in-Some.ensures.some c.take.ensures.items);
       replaces = replaces n xs;
     }
 
@@ -22,7 +22,7 @@ returns-in-default c =
     let n = c.args.notice in
     let xs = items table.notices in
     record {
-      outcome = accepted (notice_row n xs) _ _ tt (zero_row n xs (sym c.if-is-zero.ensures)) (zero_none n xs (sym c.if-is-zero.ensures) (sym (c.in-default.ensures.test table.rising)));
+      outcome = accepted (notice_row n xs) _ _ tt (zero_row n xs (sym c.if-is_zero.ensures)) (zero_none n xs (sym c.if-is_zero.ensures) (sym (c.in-default.ensures.test table.rising)));
       replaces = replaces n xs;
     }
 
@@ -32,7 +32,7 @@ returns-in-Ok c =
     let n = c.args.notice in
     let xs = items table.notices in
     record {
-      outcome = accepted (notice_row n xs) _ _ tt (taken_row n xs (sym c.if-is-zero.ensures) (space_of table.notices) table.room (c.in-Ok.ensures.test table.rising)) (taken_kept n xs (sym c.if-is-zero.ensures) (space_of table.notices) table.room (items c.put.new.self) (c.in-Ok.ensures.items table.rising));
+      outcome = accepted (notice_row n xs) _ _ tt (taken_row n xs (sym c.if-is_zero.ensures) (space_of table.notices) table.room (c.in-Ok.ensures.test table.rising)) (taken_kept n xs (sym c.if-is_zero.ensures) (space_of table.notices) table.room (items c.put.new.self) (c.in-Ok.ensures.items table.rising));
       replaces = replaces n xs;
     }
 
@@ -42,6 +42,6 @@ returns-in-Err c =
     let n = c.args.notice in
     let xs = items table.notices in
     record {
-      outcome = refused (notice_row n xs) _ _ NoRoom (full_row n xs (sym c.if-is-zero.ensures) (space_of table.notices) table.room (c.in-Err.ensures.test table.rising)) (c.in-Err.ensures.items table.rising);
+      outcome = refused (notice_row n xs) _ _ NoRoom (full_row n xs (sym c.if-is_zero.ensures) (space_of table.notices) table.room (c.in-Err.ensures.test table.rising)) (c.in-Err.ensures.items table.rising);
       replaces = replaces n xs;
     }

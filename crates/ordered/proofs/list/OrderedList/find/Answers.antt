@@ -9,7 +9,7 @@ returns-in-Ok g c =
     let xs = c.args.self.now.records.items in
     let x = c.args.like.now in
     let s : Result ℕ ℕ = Ok c.in-Ok.place in
-    let h = subst (λ ys. Sought g.T.Ranked.before g.T.Ranked.same ys x s) c.as-slice.ensures c.in-Ok.ensures in
+    let h = subst (λ ys. Sought g.T.Ranked.before g.T.Ranked.same ys x s) c.as_slice.ensures c.in-Ok.ensures in
     record { some = found_some o xs x s h; only = found_only o xs x s h; test = found_test o xs x s h }
 
 pub returns-in-Err : goal.returns-in-Err
@@ -18,5 +18,5 @@ returns-in-Err g c =
     let xs = c.args.self.now.records.items in
     let x = c.args.like.now in
     let s : Result ℕ ℕ = Err c.in-Err.field-0 in
-    let h = subst (λ ys. Sought g.T.Ranked.before g.T.Ranked.same ys x s) c.as-slice.ensures c.in-Err.ensures in
+    let h = subst (λ ys. Sought g.T.Ranked.before g.T.Ranked.same ys x s) c.as_slice.ensures c.in-Err.ensures in
     record { some = found_some o xs x s h; only = found_only o xs x s h; test = found_test o xs x s h }

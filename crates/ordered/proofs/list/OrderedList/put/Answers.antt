@@ -12,7 +12,7 @@ returns-in-Ok g c =
     let xs = c.args.self.now.records.items in
     let x = c.args.record in
     let k = c.in-Ok.place in
-    let h : Sought g.T.Ranked.before g.T.Ranked.same xs x (Ok k) = subst (λ ys. Sought g.T.Ranked.before g.T.Ranked.same ys x (Ok k)) c.as-slice.ensures c.in-Ok.ensures in
+    let h : Sought g.T.Ranked.before g.T.Ranked.same xs x (Ok k) = subst (λ ys. Sought g.T.Ranked.before g.T.Ranked.same ys x (Ok k)) c.as_slice.ensures c.in-Ok.ensures in
     record {
       test = λ _. replaced_test o xs c.args.self.now.space k x x h.0 h.1;
       items = λ r. sym (placed_set o xs k x x r h.0 h.1);
@@ -27,7 +27,7 @@ returns-then-len-self g c =
     let v = c.args.self.now.records in
     let x = c.args.record in
     let k = c.in-Err.place in
-    let h : Sought g.T.Ranked.before g.T.Ranked.same v.items x (Err k) = subst (λ ys. Sought g.T.Ranked.before g.T.Ranked.same ys x (Err k)) c.as-slice.ensures c.in-Err.ensures in
+    let h : Sought g.T.Ranked.before g.T.Ranked.same v.items x (Err k) = subst (λ ys. Sought g.T.Ranked.before g.T.Ranked.same ys x (Err k)) c.as_slice.ensures c.in-Err.ensures in
     record {
       test = λ r. full_test o v.items c.args.self.now.space k x (omega arith) (h.1 r);
       items = λ _. refl;
@@ -42,7 +42,7 @@ returns g c =
     let v = c.args.self.now.records in
     let x = c.args.record in
     let k = c.in-Err.place in
-    let h : Sought g.T.Ranked.before g.T.Ranked.same v.items x (Err k) = subst (λ ys. Sought g.T.Ranked.before g.T.Ranked.same ys x (Err k)) c.as-slice.ensures c.in-Err.ensures in
+    let h : Sought g.T.Ranked.before g.T.Ranked.same v.items x (Err k) = subst (λ ys. Sought g.T.Ranked.before g.T.Ranked.same ys x (Err k)) c.as_slice.ensures c.in-Err.ensures in
     let room : v.len < v.cap = let w = c.args.self.now.reserved in omega arith in
     let e : c.insert.new.self.items ≡ insert v.items k x = c.insert.ensures.items ∙ cond-true _ _ _ (c.insert.ensures.succeeds room) in
     record {

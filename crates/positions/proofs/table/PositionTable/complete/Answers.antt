@@ -7,12 +7,12 @@ use Rattle.positions.proofs.table.PositionTable.complete.Goals as goal
 pub loop-party-init : goal.loop-party-init
 loop-party-init c = complete_none _ _
 
-pub returns-then-not-has-both : goal.returns-then-not-has-both
-returns-then-not-has-both c =
+pub returns-then-not-has_both : goal.returns-then-not-has_both
+returns-then-not-has_both c =
     let t = c.args.self.now in
-    sym (incomplete (readings_of Production t c.args.hour.0) (readings_of Consumption t c.args.hour.0) c.args.parties c.loop-party.party (omega arith) (sym c.if-not-has-both.ensures))
+    sym (incomplete (readings_of Production t c.args.hour.0) (readings_of Consumption t c.args.hour.0) c.args.parties c.loop-party.party (omega arith) (sym c.if-not-has_both.ensures))
 
 pub loop-party-preserved : goal.loop-party-preserved
 loop-party-preserved c =
     let t = c.args.self.now in
-    complete_more (readings_of Production t c.args.hour.0) (readings_of Consumption t c.args.hour.0) c.loop-party.party c.loop-party.invariant (sym c.if-not-has-both.ensures)
+    complete_more (readings_of Production t c.args.hour.0) (readings_of Consumption t c.args.hour.0) c.loop-party.party c.loop-party.invariant (sym c.if-not-has_both.ensures)

@@ -4,7 +4,7 @@ use Rattle.timetable.proofs.timetable.Timetable.open.Goals as goal
 
 pub invariant-of-result : goal.invariant-of-result
 invariant-of-result c =
-    let row = sym c.opening-refusal.ensures ∙ is_none c.opening-refusal.result c.if-is-some.ensures in
+    let row = sym c.opening_refusal.ensures ∙ is_none c.opening_refusal.result c.if-is_some.ensures in
     let date = c.args.date in
     let xs = c.args.prices.now in
     let ps = vec_items c.in-ok-spot.spot in
@@ -17,5 +17,5 @@ invariant-of-result c =
 
 pub returns : goal.returns
 returns c =
-    let row = sym c.opening-refusal.ensures ∙ is_none c.opening-refusal.result c.if-is-some.ensures in
+    let row = sym c.opening_refusal.ensures ∙ is_none c.opening_refusal.result c.if-is_some.ensures in
     opened_times_lem c.args.date c.args.prices.now (vec_items c.in-ok-spot.spot) c.in-Ok.start row c.in-ok-spot.ensures c.in-Ok.ensures.value
