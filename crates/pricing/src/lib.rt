@@ -86,7 +86,7 @@ pub struct PricedHour {
 
 impl PricedHour {
     pub fn by<P: Policy>(policy: &P, facts: Facts) -> PricedHour
-        ensures hour { result ≡ priced_by (meaning policy.now) facts }
+        ensures hour { result ≡ priced_by (P.meaning policy.now) facts }
         ensures bounded { Regular facts → Bounded result.prices }
         ensures ordered { Regular facts → NoSurplusAboveAShortfall result.prices }
         ensures one_way { Regular facts → AroundTheOneWay facts result.prices }

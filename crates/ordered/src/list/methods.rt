@@ -54,9 +54,9 @@ impl<T> OrderedList<T> {
 impl<T: Ranked> OrderedList<T> {
     // The place of the held record that is the same.
     pub fn find(&self, like: &T) -> Option<usize>
-        ensures some { IfSome result (λ k. SameAt same (items self.now) k like.now) }
-        ensures only { rises before (items self.now) ≡ true → (k : ℕ) → SameAt same (items self.now) k like.now → result ≡ Some k }
-        ensures test { rises before (items self.now) ≡ true → is_some result ≡ held same like.now (items self.now) }
+        ensures some { IfSome result (λ k. SameAt T.same (items self.now) k like.now) }
+        ensures only { rises T.before (items self.now) ≡ true → (k : ℕ) → SameAt T.same (items self.now) k like.now → result ≡ Some k }
+        ensures test { rises T.before (items self.now) ≡ true → is_some result ≡ held T.same like.now (items self.now) }
     {
         match seek(self.as_slice(), like) {
             Ok(place) => Some(place),
@@ -69,7 +69,7 @@ impl<T: Ranked> OrderedList<T> {
         ensures value { result ≡ slice_get (items self.old) place }
         ensures items { items self.new ≡ remove (items self.old) place }
         ensures space { space_of self.new ≡ space_of self.old }
-        ensures rises { rises before (items self.old) ≡ true → rises before (items self.new) ≡ true }
+        ensures rises { rises T.before (items self.old) ≡ true → rises T.before (items self.new) ≡ true }
     {
         if place >= self.len() {
             return None;
@@ -81,9 +81,9 @@ impl<T: Ranked> OrderedList<T> {
 impl<T: Ranked + Drop> OrderedList<T> {
     // Puts a record at its place. A held record that is the same gives way to it, so a full list still takes such a one.
     pub fn put(&mut self, record: T) -> Result<(), Full>
-        ensures test { rises before (items self.old) ≡ true → is_ok result ≡ accepts same self.old «record» }
-        ensures items { rises before (items self.old) ≡ true → items self.new ≡ (if is_ok result then placed before «record» (items self.old) else items self.old) }
-        ensures rises { rises before (items self.old) ≡ true → rises before (items self.new) ≡ true }
+        ensures test { rises T.before (items self.old) ≡ true → is_ok result ≡ accepts T.same self.old «record» }
+        ensures items { rises T.before (items self.old) ≡ true → items self.new ≡ (if is_ok result then placed T.before «record» (items self.old) else items self.old) }
+        ensures rises { rises T.before (items self.old) ≡ true → rises T.before (items self.new) ≡ true }
         ensures refused { is_ok result ≡ false → items self.new ≡ items self.old }
         ensures space { space_of self.new ≡ space_of self.old }
     {

@@ -6,7 +6,7 @@ use std::cmp::Ordering;
 
 // Halves the part that is left until a record is the same or none is left.
 pub(super) fn seek<T: Ranked>(records: &[T], like: &T) -> Result<usize, usize>
-    ensures { Sought before same records.now like.now result }
+    ensures { Sought T.before T.same records.now like.now result }
 {
     let mut low = 0;
     let mut high = records.len();
