@@ -6,7 +6,8 @@ use Rattle.std.proofs.Common.{◌≡◌, ℕ, ◌<◌, true, false, ◌&&◌, �
 use lib.Signed.{lt_z}
 use Rattle.std.proofs.lemmas.Int.{ints}
 use Rattle.std.proofs.lemmas.Bool.{and_from, and_parts, cases_order, eq-eqb, eqb-true, false≢true, le-ltb, lt-ltb, ne_eqb, or_cases, or_left, or_right}
-use Rattle.std.specs.Ordering.{MatchOrdering as ByAnswer, ordering_then}
+use Rattle.std.specs.Ordering.{MatchOrdering as ByAnswer, nat_cmp, ordering_then}
+use Rattle.std.proofs.lemmas.Cmp.{ranked}
 use Rattle.ordered.specs.Lex.{eq_z, lex_before, lex_same}
 use Rattle.ordered.specs.Order.{TotalOrder, exactly_one}
 
@@ -134,10 +135,14 @@ Compares o xs ys = ByAnswer o (lex_before xs ys ≡ true) (lex_same xs ys ≡ tr
 abbrev pub ComparesZ : Ordering → ℤ → ℤ → Type 0
 ComparesZ o x y = ByAnswer o (x <ℤ y) (x ≡ y) (y <ℤ x)
 
-pub unsigned : (o : Ordering) (m n : ℕ) → ByAnswer o (m < n) (m ≡ n) (n < m) → ComparesZ o (pos m) (pos n)
-unsigned Less m n h = omega (arith, ints)
-unsigned Equal m n h = ap pos h
-unsigned Greater m n h = omega (arith, ints)
+of_unsigned : (o : Ordering) (m n : ℕ) → ByAnswer o (m < n) (m ≡ n) (n < m) → ComparesZ o (pos m) (pos n)
+of_unsigned Less m n h = omega (arith, ints)
+of_unsigned Equal m n h = ap pos h
+of_unsigned Greater m n h = omega (arith, ints)
+
+-- as `cmp` answers of unsigned numbers
+pub unsigned : (o : Ordering) (m n : ℕ) → o ≡ nat_cmp m n → ComparesZ o (pos m) (pos n)
+unsigned o m n e = of_unsigned o m n (ranked m n o e)
 
 then_rest : (o q : Ordering) (x y : ℤ) (xs ys : List ℤ) → ComparesZ o x y → Compares q xs ys → Compares (ordering_then o q) (x ∷ xs) (y ∷ ys)
 unfolding lex_same
