@@ -6,11 +6,11 @@ use Rattle.book.proofs.Calls.{metered}
 use Rattle.book.proofs.Sounds.{metered_sound}
 use Rattle.book.proofs.book.Book.read.Goals as goal
 
-pub invariant-of-self : goal.invariant-of-self
-invariant-of-self c =
+pub invariant_of-self : goal.invariant_of-self
+invariant_of-self c =
     let b = c.args.self.now in
     let t = times b.timetable in
-    let none = sym c.in-default.ensures in
+    let none = sym c.in_default.ensures in
     let unsettled = (reading_accepted t c.args.hour.0 c.args.party.0 c.args.energy.0 c.args.settled none).unsettled in (
       metered_sound b.timetable b.positions b.notices b.ladder b.register b.sound c.set_reading.new.self c.args.meter c.args.hour.0 c.args.party.0 c.args.energy.0
           (ap (reading_row t c.args.hour.0 c.args.party.0 c.args.energy.0) (sym unsettled) ∙ none) c.set_reading.ensures,
@@ -21,4 +21,4 @@ pub returns : goal.returns
 returns c stage prices is =
     let b = c.args.self.now in
     metered stage prices b.timetable b.positions c.set_reading.new.self b.notices b.ladder b.register b.sound c.args.meter c.args.hour.0 c.args.party.0 c.args.energy.0
-    (ap (reading_row (times b.timetable) c.args.hour.0 c.args.party.0 c.args.energy.0) is ∙ sym c.in-default.ensures) c.set_reading.ensures
+    (ap (reading_row (times b.timetable) c.args.hour.0 c.args.party.0 c.args.energy.0) is ∙ sym c.in_default.ensures) c.set_reading.ensures

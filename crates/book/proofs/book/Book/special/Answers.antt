@@ -10,12 +10,12 @@ use Rattle.book.proofs.Calls.{specially}
 use Rattle.book.proofs.Sounds.{specially_sound}
 use Rattle.book.proofs.book.Book.special.Goals as goal
 
-pub invariant-of-self : goal.invariant-of-self
-invariant-of-self c =
+pub invariant_of-self : goal.invariant_of-self
+invariant_of-self c =
     let b = c.args.self.now in
     let t = times b.timetable in
     let is = c.special-activation.ensures in
-    let none = sym (c.in-default.ensures ∙ ap (special_row t c.special-activation.result) c.has_room-room.ensures ∙ ap (λ a. special_row t a (ltb (length (registered b.register)) most_activations)) is) in (
+    let none = sym (c.in_default.ensures ∙ ap (special_row t c.special-activation.result) c.has_room-room.ensures ∙ ap (λ a. special_row t a (ltb (length (registered b.register)) most_activations)) is) in (
       specially_sound b.timetable b.positions b.notices b.ladder b.register b.sound c.enter.new.self (special_of c.args.offer c.args.first_minute c.args.last_minute) c.enter.result none refl
           (subst (λ a. Outcome (register_row (registered b.register)) c.enter.result (registered c.enter.new.self ≡ registered b.register) (λ _. registered c.enter.new.self ≡ with_activation a (registered b.register))) is c.enter.ensures),
       tt,
@@ -26,7 +26,7 @@ returns c stage settled =
     let b = c.args.self.now in
     let t = times b.timetable in
     let is = c.special-activation.ensures in
-    let none = sym (c.in-default.ensures ∙ ap (special_row t c.special-activation.result) c.has_room-room.ensures ∙ ap (λ a. special_row t a (ltb (length (registered b.register)) most_activations)) is) in
+    let none = sym (c.in_default.ensures ∙ ap (special_row t c.special-activation.result) c.has_room-room.ensures ∙ ap (λ a. special_row t a (ltb (length (registered b.register)) most_activations)) is) in
     specially stage settled b.timetable b.positions b.notices b.ladder b.register c.enter.new.self (special_of c.args.offer c.args.first_minute c.args.last_minute) c.energy.result.0 c.enter.result none refl
     (c.energy.ensures.value ∙ ap (λ a. pos (energy_of a)) is)
     (subst (λ a. Outcome (register_row (registered b.register)) c.enter.result (registered c.enter.new.self ≡ registered b.register) (λ _. registered c.enter.new.self ≡ with_activation a (registered b.register))) is c.enter.ensures)

@@ -19,6 +19,6 @@ returns c =
     let a = day.accounts in
     let p = c.args.party.0 in
     let f = metered_of b a in
-    let none = sym (c.account_refusal.ensures ∙ ap (λ x. account_row (times x) p) c.timetable.ensures) ∙ c.in-default.is in
+    let none = sym (c.account_refusal.ensures ∙ ap (λ x. account_row (times x) p) c.timetable.ensures) ∙ c.in_default.is in
     let entered = not-false (ltb p f.parties) (passed (not (ltb p f.parties)) UnknownParty None none).0 in
     accepted {X = Mills} (account_refused f p) Unit (λ amount. amount.0 ≡ account_at f p) c.amount.result none (account_is b a p c.amount.result.0 day.reckoned entered c.amount.ensures)

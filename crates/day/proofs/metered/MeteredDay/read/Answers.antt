@@ -8,8 +8,8 @@ use Rattle.day.proofs.Reckoning.{read_reckoned}
 use Rattle.day.proofs.Stages.{staged}
 use Rattle.day.proofs.metered.MeteredDay.read.Goals as goal
 
-pub invariant-of-self : goal.invariant-of-self
-invariant-of-self c =
+pub invariant_of-self : goal.invariant_of-self
+invariant_of-self c =
     let day = c.args.self.now in
     let b = day.book in
     let a = day.accounts in

@@ -27,8 +27,8 @@ returns-in-Some g c =
     let m = g.P.Policy.meaning c.args.policy.now in
     refused {X = Unit} (settle_refused f h) (f ≡ f) (λ _. Lawful (Settled h m) f × (f ≡ after (Settled h m) f)) c.in-Some.refusal (sym row ∙ c.in-Some.is) refl
 
-pub invariant-of-self : goal.invariant-of-self
-invariant-of-self g c =
+pub invariant_of-self : goal.invariant_of-self
+invariant_of-self g c =
     let day = c.args.self.now in
     let b = day.book in
     let a = day.accounts in
@@ -40,7 +40,7 @@ invariant-of-self g c =
     ∙ ap (λ x. settle_row t h x c.is_complete-complete.result) (c.is_some-settled.ensures ∙ ap is_some c.prices_of.ensures)
     ∙ ap (settle_row t h (is_settled (metered_of b a) h)) (c.is_complete-complete.ensures Metered (settled_of a)) in
     let m = g.P.Policy.meaning c.args.policy.now in
-    let none = sym row ∙ c.in-default.is in (
+    let none = sym row ∙ c.in_default.is in (
       settled_reckoned b a c.bill.new.accounts c.settle.new.self h c.facts-facts.result c.prices-prices.result m (g.met.P.Policy.rules c.args.policy.now) none (c.facts-facts.ensures Metered (settled_of a)) c.prices-prices.ensures
           c.bill.ensures.settled c.settle.ensures (λ known roomy. c.bill.ensures.billed known roomy Metered (settled_of a)) day.reckoned,
       tt,
@@ -59,6 +59,6 @@ returns g c =
     ∙ ap (λ x. settle_row t h x c.is_complete-complete.result) (c.is_some-settled.ensures ∙ ap is_some c.prices_of.ensures)
     ∙ ap (settle_row t h (is_settled (metered_of b a) h)) (c.is_complete-complete.ensures Metered (settled_of a)) in
     let m = g.P.Policy.meaning c.args.policy.now in
-    let none = sym row ∙ c.in-default.is in
+    let none = sym row ∙ c.in_default.is in
     settled_made b a c.bill.new.accounts c.settle.new.self h c.facts-facts.result c.prices-prices.result m (g.met.P.Policy.rules c.args.policy.now) none (c.facts-facts.ensures Metered (settled_of a)) c.prices-prices.ensures
     c.bill.ensures.settled c.settle.ensures

@@ -1,5 +1,5 @@
 use Rattle.day.proofs.Reckoning.{finished}
 use Rattle.day.proofs.running.RunningDay.finish.Goals as goal
 
-pub invariant-of-result : goal.invariant-of-result
-invariant-of-result c = (finished c.args.self.book c.new.result c.new.ensures, tt)
+pub invariant_of-result : goal.invariant_of-result
+invariant_of-result c = (finished c.args.self.book c.new.result c.new.ensures, tt)

@@ -5,8 +5,8 @@ use Rattle.market.specs.Words.{same_direction}
 use Rattle.ladder.proofs.Put.{More, fresh_more, once_more, put_new}
 use Rattle.ladder.proofs.ladder.Ladder.add.Goals as goal
 
-pub invariant-of-self : goal.invariant-of-self
-invariant-of-self c =
+pub invariant_of-self : goal.invariant_of-self
+invariant_of-self c =
     let l = c.args.self.now in
     let xs = items l.up in
     let ys = items l.down in
@@ -21,8 +21,8 @@ invariant-of-self c =
     let more : More b xs ys us ys = λ r. let f = p.counts r in omega arith in
     (p.side, (l.downward, ((c.put.ensures.space ∙ l.space.0, l.space.1), ((omega arith, omega arith), (once_more l.given b xs ys us ys number more l.once l.fresh, (fresh_more l.given b xs ys us ys number more l.fresh, tt))))))
 
-pub invariant-of-self-in-Down : goal.invariant-of-self-in-Down
-invariant-of-self-in-Down c =
+pub invariant_of-self-in-Down : goal.invariant_of-self-in-Down
+invariant_of-self-in-Down c =
     let l = c.args.self.now in
     let xs = items l.up in
     let ys = items l.down in

@@ -34,8 +34,8 @@ put-down c =
     put_back Down _ r.0 c.args.held (items l.down) c.standing.result.now (items c.put-in-Down.new.self) k (is_ok c.put-in-Down.result)
     (c.standing.ensures.value ∙ ap (λ d. bids_of d (view l)) is) l.downward most at.0 (ap (λ v. v.0) at.1) (c.put-in-Down.ensures.test l.downward.0, c.put-in-Down.ensures.items l.downward.0)
 
-pub invariant-of-self : goal.invariant-of-self
-invariant-of-self c =
+pub invariant_of-self : goal.invariant_of-self
+invariant_of-self c =
     let l = c.args.self.now in
     let xs = items l.up in
     let ys = items l.down in
@@ -45,8 +45,8 @@ invariant-of-self c =
     let fewer : Fewer xs ys us ys = λ r. let f = p.counts r in omega arith in
     (p.side, (l.downward, ((c.put.ensures.space ∙ l.space.0, l.space.1), ((omega (arith, l.room.0), l.room.1), (once_fewer xs ys us ys fewer l.once, (fresh_fewer l.given xs ys us ys fewer l.fresh, tt))))))
 
-pub invariant-of-self-in-Down : goal.invariant-of-self-in-Down
-invariant-of-self-in-Down c =
+pub invariant_of-self-in-Down : goal.invariant_of-self-in-Down
+invariant_of-self-in-Down c =
     let l = c.args.self.now in
     let xs = items l.up in
     let ys = items l.down in

@@ -17,7 +17,7 @@ returns-in-Some-find_receipt c =
     let r = c.args.receipt in
     let l = c.args.self.now in
     let k = c.in-Some-find_receipt.place in
-    let n : NoneOf (Numbered r) (items l.up) (length (items l.up)) = subst (λ xs. NoneOf (Numbered r) xs (length xs)) c.as_slice.ensures c.in-default.ensures in
+    let n : NoneOf (Numbered r) (items l.up) (length (items l.up)) = subst (λ xs. NoneOf (Numbered r) xs (length xs)) c.as_slice.ensures c.in_default.ensures in
     let h : FirstAt (Numbered r) (items l.down) k = subst (λ xs. FirstAt (Numbered r) xs k) c.as_slice-2.ensures c.in-Some-find_receipt.ensures in
     record { value = found_second r (items l.up) (items l.down) k n h; within = (h.within, h.here) }
 
@@ -25,6 +25,6 @@ pub returns-in-None : goal.returns-in-None
 returns-in-None c =
     let r = c.args.receipt in
     let l = c.args.self.now in
-    let n : NoneOf (Numbered r) (items l.up) (length (items l.up)) = subst (λ xs. NoneOf (Numbered r) xs (length xs)) c.as_slice.ensures c.in-default.ensures in
+    let n : NoneOf (Numbered r) (items l.up) (length (items l.up)) = subst (λ xs. NoneOf (Numbered r) xs (length xs)) c.as_slice.ensures c.in_default.ensures in
     let m : NoneOf (Numbered r) (items l.down) (length (items l.down)) = subst (λ xs. NoneOf (Numbered r) xs (length xs)) c.as_slice-2.ensures c.in-None.ensures in
     record { value = found_neither r (items l.up) (items l.down) n m; within = tt }

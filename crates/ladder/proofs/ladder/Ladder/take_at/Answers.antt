@@ -8,8 +8,8 @@ use Rattle.ladder.proofs.Invariant.{Fewer, fresh_fewer, once_fewer, side_removed
 use Rattle.ladder.proofs.Taken.{taken_down, taken_up}
 use Rattle.ladder.proofs.ladder.Ladder.take_at.Goals as goal
 
-pub invariant-of-self : goal.invariant-of-self
-invariant-of-self c =
+pub invariant_of-self : goal.invariant_of-self
+invariant_of-self c =
     let l = c.args.self.now in
     let k = c.args.place in
     let xs = items l.up in
@@ -20,8 +20,8 @@ invariant-of-self c =
     let fewer : Fewer xs ys us ys = λ r. let f = count_removed r xs us k e in omega arith in
     (side_removed Up xs us k e l.upward, (l.downward, ((c.take.ensures.space ∙ l.space.0, l.space.1), ((omega (arith, l.room.0), l.room.1), (once_fewer xs ys us ys fewer l.once, (fresh_fewer l.given xs ys us ys fewer l.fresh, tt))))))
 
-pub invariant-of-self-in-Down : goal.invariant-of-self-in-Down
-invariant-of-self-in-Down c =
+pub invariant_of-self-in-Down : goal.invariant_of-self-in-Down
+invariant_of-self-in-Down c =
     let l = c.args.self.now in
     let k = c.args.place in
     let xs = items l.up in

@@ -3,10 +3,10 @@ use Rattle.ordered.specs.Listed.{items}
 use Rattle.notices.proofs.Taken.{got_like, never_none, nothing_like}
 use Rattle.notices.proofs.table.NoticeTable.energy_like.Goals as goal
 
-pub returns-in-default : goal.returns-in-default
-returns-in-default c =
+pub returns-in_default : goal.returns-in_default
+returns-in_default c =
     let table = c.args.self.now in
-    nothing_like c.args.like.now (items table.notices) (sym (c.in-default.ensures.test table.rising))
+    nothing_like c.args.like.now (items table.notices) (sym (c.in_default.ensures.test table.rising))
 
 pub returns-in-Some-get : goal.returns-in-Some-get
 returns-in-Some-get c =

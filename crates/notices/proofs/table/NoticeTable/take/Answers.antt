@@ -16,13 +16,13 @@ returns-in-Some c =
       replaces = replaces n xs;
     }
 
-pub returns-in-default : goal.returns-in-default
-returns-in-default c =
+pub returns-in_default : goal.returns-in_default
+returns-in_default c =
     let table = c.args.self.now in
     let n = c.args.notice in
     let xs = items table.notices in
     record {
-      outcome = accepted (notice_row n xs) _ _ tt (zero_row n xs (sym c.if-is_zero.ensures)) (zero_none n xs (sym c.if-is_zero.ensures) (sym (c.in-default.ensures.test table.rising)));
+      outcome = accepted (notice_row n xs) _ _ tt (zero_row n xs (sym c.if-is_zero.ensures)) (zero_none n xs (sym c.if-is_zero.ensures) (sym (c.in_default.ensures.test table.rising)));
       replaces = replaces n xs;
     }
 

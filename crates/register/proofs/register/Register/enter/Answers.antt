@@ -6,8 +6,8 @@ use Rattle.register.specs.Registered.{register_row}
 use Rattle.register.proofs.Numbered.{entered, entered_numbered}
 use Rattle.register.proofs.register.Register.enter.Goals as goal
 
-pub invariant-of-self : goal.invariant-of-self
-invariant-of-self c =
+pub invariant_of-self : goal.invariant_of-self
+invariant_of-self c =
     let before = c.args.self.now in (
       c.put.ensures.rises before.rising,
       (

@@ -2,8 +2,8 @@ use Rattle.std.proofs.Common.{vec_items, sym, ◌∙◌, zero-le}
 use Rattle.timetable.proofs.Days.{is_none, whole_day, prices_within, start_spanned, clock_spanned, opened_times_lem}
 use Rattle.timetable.proofs.timetable.Timetable.open.Goals as goal
 
-pub invariant-of-result : goal.invariant-of-result
-invariant-of-result c =
+pub invariant_of-result : goal.invariant_of-result
+invariant_of-result c =
     let row = sym c.opening_refusal.ensures ∙ is_none c.opening_refusal.result c.if-is_some.ensures in
     let date = c.args.date in
     let xs = c.args.prices.now in
