@@ -8,16 +8,7 @@ use Rattle.register.proofs.register.Register.enter.Goals as goal
 
 pub invariant_of-self : goal.invariant_of-self
 invariant_of-self c =
-    let before = c.args.self.now in (
-      c.put.ensures.rises before.rising,
-      (
-        c.put.ensures.space ∙ before.room,
-        (
-          entered_numbered (items before.activations) c.args.activation before.rising before.numbered c.len-arrival.result c.len-arrival.ensures.value (items c.put.new.self) (space_of before.activations) (is_ok c.put.result) (omega (arith, before.room)) (c.put.ensures.test before.rising) (c.put.ensures.items before.rising),
-          tt,
-        ),
-      ),
-    )
+    let before = c.args.self.now in record { rising = c.put.ensures.rises before.rising; room = c.put.ensures.space ∙ before.room; numbered = entered_numbered (items before.activations) c.args.activation before.rising before.numbered c.len-arrival.result c.len-arrival.ensures.value (items c.put.new.self) (space_of before.activations) (is_ok c.put.result) (omega (arith, before.room)) (c.put.ensures.test before.rising) (c.put.ensures.items before.rising) }
 
 pub returns : goal.returns
 returns c =
