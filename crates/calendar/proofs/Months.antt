@@ -1,6 +1,6 @@
 -- What holds of the lengths of months and years, leap or not.
 use Rattle.std.proofs.Common.{◌≡◌, ℕ, zero, suc, ◌+◌, ◌-◌, ◌≤◌, Bool, true, false, drop, ⊎_elim, add-one, arith, lit≤}
-use Rattle.std.specs.List.{AllByRecursion as All}
+use Rattle.std.specs.List.{AllByRecursion}
 use Rattle.std.proofs.lemmas.List.{get_or_past}
 use Rattle.std.proofs.ByRecursion.{All-get_or}
 use Rattle.std.proofs.lemmas.Bool.{cases_lt, cond_both}
@@ -10,7 +10,7 @@ use Rattle.calendar.specs.Dates.{leap_year, year_days, month_lengths, month_leng
 pub month_most : (b : Bool) (m : ℕ) → month_length b m ≤ 31
 month_most b m = ⊎_elim (λ h. All-get_or (λ x. x ≤ 31) (month_lengths b) m 0 h (most b)) (λ h. let e = get_or_past (month_lengths b) m 0 h in omega (arith, e)) (cases_lt m 13)
   where
-    most : (b : Bool) → All (λ x. x ≤ 31) (month_lengths b)
+    most : (b : Bool) → AllByRecursion (λ x. x ≤ 31) (month_lengths b)
     most true = omega arith
     most false = omega arith
 
@@ -18,7 +18,7 @@ pub month_least : (b : Bool) (m : ℕ) → 1 ≤ m → m ≤ 12 → 28 ≤ month
 month_least b zero first last = omega arith
 month_least b (suc k) first last = All-get_or (λ x. 28 ≤ x) (drop 1 (month_lengths b)) k 0 (omega arith) (least b)
   where
-    least : (b : Bool) → All (λ x. 28 ≤ x) (drop 1 (month_lengths b))
+    least : (b : Bool) → AllByRecursion (λ x. 28 ≤ x) (drop 1 (month_lengths b))
     least true = omega arith
     least false = omega arith
 

@@ -1,7 +1,7 @@
 -- How far from 0 sums and products lie.
 use Rattle.std.proofs.Common.{◌≡◌, ℕ, zero, suc, ◌+◌, ◌*◌, ◌<◌, ◌≤◌, Bool, true, false, cond, List, [], ◌∷◌, length, ℤ, pos, negsuc, ◌+ℤ◌, ◌-ℤ◌, ◌*ℤ◌, neg_ℤ, nat_abs, sym, refl, ap, ◌∙◌, subst, mul-le-mul, arith}
 use lib.IntN.{pos-*ℤ-pos, pos-*ℤ-negsuc, negsuc-*ℤ-pos, negsuc-*ℤ-negsuc}
-use Rattle.std.specs.List.{AllByRecursion as All}
+use Rattle.std.specs.List.{AllByRecursion}
 use Rattle.std.proofs.lemmas.Int.{ints}
 use Rattle.integers.specs.Near.{Near}
 use Rattle.integers.specs.Sums.{sum_to, sum_over}
@@ -60,7 +60,7 @@ near-sum_to (suc n) m f h =
     subst (λ k. Near k (sum_to n f +ℤ f n)) (sym (one_more n m))
     (near_add (n * m) m (sum_to n f) (f n) (near-sum_to n m f (λ k l. h k (omega arith))) (h n (omega arith)))
 
-pub near-sum_over : {X : Type 0} (m : ℕ) (f : X → ℤ) (xs : List X) → All (λ x. Near m (f x)) xs → Near (length xs * m) (sum_over f xs)
+pub near-sum_over : {X : Type 0} (m : ℕ) (f : X → ℤ) (xs : List X) → AllByRecursion (λ x. Near m (f x)) xs → Near (length xs * m) (sum_over f xs)
 unfolding sum_over
 near-sum_over m f [] a = near_zero _
 near-sum_over m f (x ∷ xs) a =

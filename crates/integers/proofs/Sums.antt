@@ -1,7 +1,7 @@
 -- Sums of whole numbers: term by term, exchanged, and cancelled.
 use Rattle.std.proofs.Common.{◌≡◌, ℕ, zero, suc, ◌+◌, ◌<◌, ◌≤◌, cond, eqb, List, [], ◌∷◌, ℤ, pos, ◌+ℤ◌, ◌-ℤ◌, ◌*ℤ◌, neg_ℤ, ◌≤ℤ◌, sym, refl, ap, ◌∙◌, ⊎_elim, add-one, arith}
 use lib.IntN.{*ℤ-zero}
-use Rattle.std.specs.List.{AllByRecursion as All}
+use Rattle.std.specs.List.{AllByRecursion}
 use Rattle.std.proofs.lemmas.Int.{ints}
 use Rattle.std.proofs.lemmas.Bool.{cases_eq, cond-true, cond-false, eq-eqb, ne_eqb}
 use Rattle.integers.specs.Sums.{sum_to, sum_over}
@@ -101,12 +101,12 @@ module _ {X : Type 0} where
   sum_over-scale c f [] = sym (*ℤ-zero c)
   sum_over-scale c f (x ∷ xs) = ap (λ z. (c *ℤ f x) +ℤ z) (sum_over-scale c f xs) ∙ sym (mul_add c (f x) (sum_over f xs))
 
-  pub sum_over-same : (f g : X → ℤ) (xs : List X) → All (λ x. f x ≡ g x) xs → sum_over f xs ≡ sum_over g xs
+  pub sum_over-same : (f g : X → ℤ) (xs : List X) → AllByRecursion (λ x. f x ≡ g x) xs → sum_over f xs ≡ sum_over g xs
   unfolding sum_over
   sum_over-same f g [] a = refl
   sum_over-same f g (x ∷ xs) a = let i = sum_over-same f g xs a.1 in let e = a.0 in omega (arith, ints)
 
-  pub sum_over-keeps : (f g : X → ℤ) (xs : List X) → All (λ x. f x ≤ℤ g x) xs → sum_over f xs ≤ℤ sum_over g xs
+  pub sum_over-keeps : (f g : X → ℤ) (xs : List X) → AllByRecursion (λ x. f x ≤ℤ g x) xs → sum_over f xs ≤ℤ sum_over g xs
   unfolding sum_over
   sum_over-keeps f g [] a = omega (arith, ints)
   sum_over-keeps f g (x ∷ xs) a = let i = sum_over-keeps f g xs a.1 in let e = a.0 in omega (arith, ints)

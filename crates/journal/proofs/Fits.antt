@@ -1,7 +1,7 @@
 -- How large the amounts of a day are, from what every run keeps.
 use Rattle.std.proofs.Common.{◌≡◌, ℕ, ◌*◌, ◌^◌, ◌<◌, ◌≤◌, Bool, cond, List, [], ◌∷◌, ℤ, pos, neg_ℤ, Some, None, Option, sym, refl, ap, ◌∙◌, subst, arith}
 use Rattle.std.proofs.lemmas.Int.{ints}
-use Rattle.std.specs.List.{AllByRecursion as All}
+use Rattle.std.specs.List.{AllByRecursion}
 use Rattle.std.proofs.ByRecursion.{All-weaker}
 use Rattle.std.proofs.lemmas.Bool.{cond_both}
 use Rattle.market.specs.Figures.{notice_limit, price_setting_minutes, most_parties}
@@ -21,7 +21,7 @@ use Rattle.journal.specs.Kept.{ActivationSound, Kept}
 use Rattle.journal.proofs.Law.{regular, hour_cancels}
 
 -- what holds of 0 and of every value holds of the one that is looked up
-looked_up : {X : Type 0} (P : ℤ → Type 0) (same : X → X → Bool) (value : X → ℤ) (x : X) (xs : List X) → P (pos 0) → All (λ y. P (value y)) xs → P (value_like same value x xs)
+looked_up : {X : Type 0} (P : ℤ → Type 0) (same : X → X → Bool) (value : X → ℤ) (x : X) (xs : List X) → P (pos 0) → AllByRecursion (λ y. P (value y)) xs → P (value_like same value x xs)
 unfolding value_like
 looked_up P same value x [] zero all = zero
 looked_up P same value x (y ∷ xs) zero all = cond_both (same y x) (value y) (value_like same value x xs) P (λ _. all.0) (λ _. looked_up P same value x xs zero all.1)

@@ -1,6 +1,6 @@
 -- What every run of lawful calls keeps.
 use Rattle.std.proofs.Common.{◌≡◌, ℕ, suc, ◌+◌, ◌<◌, ◌≤◌, Bool, true, false, cond, eqb, ◌⊎◌, List, [], ◌∷◌, length, ℤ, pos, is_some, Some, None, filter, Option, unwrap_or, sym, refl, ap, ◌∙◌, subst, inl, inr, ⊎_elim, arith}
-use Rattle.std.specs.List.{AllByRecursion as All}
+use Rattle.std.specs.List.{AllByRecursion}
 use Rattle.std.proofs.ByRecursion.{All-weaker, all_kept_by}
 use Rattle.std.proofs.lemmas.List.{length-append}
 use Rattle.std.proofs.lemmas.Bool.{cases_Bool, cases_eq, cond_both, cond-true, cond-false, eq-eqb, ltb-true, ne_eqb}
@@ -68,10 +68,10 @@ at_party_lem P h p x f new old k q =
     (λ other. subst (λ g. P (g q)) (sym (cond-false (eqb k h) (at p x (f h)) (f k) (ne_eqb k h other))) (old k q))
     (cases_eq k h)
 
-notices_after : (P : Notice → Type 0) (n : Notice) (notices : List Notice) → P n → All P notices → All P (with_notice n notices)
+notices_after : (P : Notice → Type 0) (n : Notice) (notices : List Notice) → P n → AllByRecursion P notices → AllByRecursion P (with_notice n notices)
 unfolding with_notice
 notices_after P n notices new old =
-    cond_both (is_zero n) (without notice_same n notices) (placed notice_before n notices) (All P) (λ _. all_kept_by _ P notices old) (λ _. all_placed (lex_order notice_key) P notices n new old)
+    cond_both (is_zero n) (without notice_same n notices) (placed notice_before n notices) (AllByRecursion P) (λ _. all_kept_by _ P notices old) (λ _. all_placed (lex_order notice_key) P notices n new old)
 
 -- trades
 

@@ -1,6 +1,6 @@
 -- The three sums, over every run of lawful calls.
 use Rattle.std.proofs.Common.{◌≡◌, ℕ, ◌<◌, true, false, List, [], ◌∷◌, get_or, pos, neg_ℤ, Some, None, Option, sym, refl, ap, ◌∙◌, subst, ⊎_elim, arith}
-use Rattle.std.specs.List.{AllByRecursion as All}
+use Rattle.std.specs.List.{AllByRecursion}
 use Rattle.std.proofs.ByRecursion.{All-weaker, All-get_or}
 use Rattle.std.proofs.lemmas.Bool.{and_parts, cases_Bool, eqb-true, or_from}
 use Rattle.units.specs.declared.Price.{Price}
@@ -72,7 +72,7 @@ unfolding facts_at
 regular f k h within = regular_reckoned price_setting_minutes (f.opening.spot h) (position h) f.activations f.bids.up f.bids.down (sound f k h within)
 
 -- where all go one way, none is listed the other way
-none_other : (h : ℕ) (d e : Direction) (xs : List Activation) → same_direction e d ≡ false → All (λ a. of_hour (position h) a ≡ true → (a.kind ≡ Listed) × (a.direction ≡ d)) xs → went (position h) e xs ≡ false
+none_other : (h : ℕ) (d e : Direction) (xs : List Activation) → same_direction e d ≡ false → AllByRecursion (λ a. of_hour (position h) a ≡ true → (a.kind ≡ Listed) × (a.direction ≡ d)) xs → went (position h) e xs ≡ false
 none_other h d e [] n all = refl
 none_other h d e (a ∷ xs) n all =
     or_from (listed_in (position h) e a) (any_of (listed_in (position h) e) xs) (not_listed a all.0) (none_other h d e xs n all.1)

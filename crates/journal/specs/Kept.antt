@@ -1,7 +1,7 @@
 -- What every run of lawful calls keeps: proved of every journal, and carried by the days themselves.
 use Rattle.std.specs.Prelude.{◌≡◌, ℕ, ◌<◌, ◌≤◌, List, length, ℤ, pos, Some, None, Option, ◌≢◌}
 use Rattle.std.specs.Option.{unwrap_or}
-use Rattle.std.specs.List.{AllByRecursion as All}
+use Rattle.std.specs.List.{AllByRecursion}
 use Rattle.market.specs.declared.words.Activation.{Activation}
 use Rattle.market.specs.declared.words.Bid.{Bid}
 use Rattle.market.specs.declared.words.Kind.TheVariants.{Listed}
@@ -44,13 +44,13 @@ pub record Terms (opening : Opening) (parties : ℕ) : Type 0 where
 
 pub record Energies (plans : ℕ → ℕ → ℤ) (notices : List Notice) (produced consumed : ℕ → ℕ → Option ℤ) : Type 0 where
   pub plans_fit : (h p : ℕ) → FromZero plan_limit (plans h p)
-  pub notices_fit : All (λ n. Near notice_limit (energy_of n)) notices
+  pub notices_fit : AllByRecursion (λ n. Near notice_limit (energy_of n)) notices
   pub produced_fit : (h p : ℕ) → FromZero reading_limit (unwrap_or (produced h p) (pos 0))
   pub consumed_fit : (h p : ℕ) → FromZero reading_limit (unwrap_or (consumed h p) (pos 0))
 
 pub record Trades (opening : Opening) (n : ℕ) (bids : StandingBids) (activations : List Activation) : Type 0 where
   pub standing : AllBids (BidSound opening n) bids
-  pub activated : All (ActivationSound opening n) activations
+  pub activated : AllByRecursion (ActivationSound opening n) activations
   pub few : length activations ≤ most_activations
 
 pub record Settlements (f : Figures) : Type 0 where

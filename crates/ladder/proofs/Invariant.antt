@@ -1,7 +1,7 @@
 -- What the lists of standing bids are, they stay. Assumes nothing.
 use Rattle.std.proofs.Common.{◌≡◌, ℕ, ◌+◌, ◌≤◌, true, List, [], ◌∷◌, sym, refl, subst, arith}
 use Rattle.std.proofs.lemmas.Bool.{and_from, and_parts}
-use Rattle.std.specs.List.{remove, AllByRecursion as All}
+use Rattle.std.specs.List.{remove, AllByRecursion}
 use Rattle.ordered.specs.Order.{placed}
 use Rattle.ordered.proofs.Lexical.{lex_order}
 use Rattle.ordered.proofs.Placed.{all_placed, rises_placed}
@@ -16,11 +16,11 @@ module _ (d : Direction) where
   abbrev pub Of : Bid → Type 0
   Of b = same_direction d b.direction ≡ true
 
-  pub only_all : (xs : List Bid) → only_of d xs ≡ true → All Of xs
+  pub only_all : (xs : List Bid) → only_of d xs ≡ true → AllByRecursion Of xs
   only_all [] h = tt
   only_all (x ∷ xs) h = let p = and_parts (same_direction d x.direction) (only_of d xs) h in (p.0, only_all xs p.1)
 
-  all_only : (xs : List Bid) → All Of xs → only_of d xs ≡ true
+  all_only : (xs : List Bid) → AllByRecursion Of xs → only_of d xs ≡ true
   all_only [] a = refl
   all_only (x ∷ xs) a = and_from (same_direction d x.direction) (only_of d xs) a.0 (all_only xs a.1)
 

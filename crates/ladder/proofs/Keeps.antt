@@ -5,7 +5,7 @@ use Rattle.std.proofs.Common.{◌≡◌, ℕ, zero, suc, ◌+◌, ◌<◌, Bool,
 use Rattle.std.proofs.ByRecursion.{All-get_or, all_kept_by, All-map, All-weaker}
 use Rattle.std.proofs.lemmas.Bool.{and_parts, cases_Bool, cond_both, cond-false, cond-true, eqb-true, not-true}
 use Rattle.std.specs.Option.{option_or}
-use Rattle.std.specs.List.{AllByRecursion as All}
+use Rattle.std.specs.List.{AllByRecursion}
 use Rattle.ordered.proofs.Lexical.{lex_order}
 use Rattle.ordered.proofs.Placed.{all_placed}
 use Rattle.market.specs.Order.{bid_key}
@@ -44,7 +44,7 @@ module _ (P : Bid → Type 0) where
         All-map P (mark receipt held) s.down (All-weaker P (λ b. P (mark receipt held b)) one s.down a.1),
       )
 
-  pub all_of : (d : Direction) (s : StandingBids) → AllBids P s → All P (bids_of d s)
+  pub all_of : (d : Direction) (s : StandingBids) → AllBids P s → AllByRecursion P (bids_of d s)
   all_of Up s a = a.0
   all_of Down s a = a.1
 
@@ -73,14 +73,14 @@ leads test (x ∷ bs) b e =
     later test x bs k t f zero l = t
     later test x bs k t f (suc j) l = f j (omega arith)
 
-pub all_leads : (P : Bid → Type 0) (test : Bid → Bool) (bs : List Bid) (b : Bid) → All P bs → Leads test bs b → P b
+pub all_leads : (P : Bid → Type 0) (test : Bid → Bool) (bs : List Bid) (b : Bid) → AllByRecursion P bs → Leads test bs b → P b
 all_leads P test bs b a l = subst P l.at (All-get_or P bs l.place no_bid l.within a)
 
 -- the bid that stands with a receipt: it has that receipt, and what all bids have
 pub with_receipt_lem : (P : Bid → Type 0) (receipt : ℕ) (s : StandingBids) (b : Bid) → AllBids P s → standing_with receipt s ≡ Some b → P b × (b.receipt.0 ≡ receipt)
 with_receipt_lem P receipt s b a e = in_either (with_receipt receipt s.up) refl e
   where
-    from : (bs : List Bid) → All P bs → with_receipt receipt bs ≡ Some b → P b × (b.receipt.0 ≡ receipt)
+    from : (bs : List Bid) → AllByRecursion P bs → with_receipt receipt bs ≡ Some b → P b × (b.receipt.0 ≡ receipt)
     from bs all f = let l = leads (has_receipt receipt) bs b f in (all_leads P (has_receipt receipt) bs b all l, eqb-true b.receipt.0 receipt l.passes)
 
     in_either : (o : Option Bid) → with_receipt receipt s.up ≡ o → option_or o (with_receipt receipt s.down) ≡ Some b → P b × (b.receipt.0 ≡ receipt)
@@ -88,7 +88,7 @@ with_receipt_lem P receipt s b a e = in_either (with_receipt receipt s.up) refl 
     in_either (Some x) n f = from s.up a.0 (n ∙ f)
 
 -- the first free bid of an hour: it is of the hour and not held, and has what all bids have; `leads` says that it is the first
-pub is_first_free : (P : Bid → Type 0) (hour : ℕ) (bs : List Bid) (b : Bid) → All P bs → first_free hour bs ≡ Some b → P b × (b.hour.0 ≡ hour) × (b.held ≡ false)
+pub is_first_free : (P : Bid → Type 0) (hour : ℕ) (bs : List Bid) (b : Bid) → AllByRecursion P bs → first_free hour bs ≡ Some b → P b × (b.hour.0 ≡ hour) × (b.held ≡ false)
 is_first_free P hour bs b a e =
     let l = leads (is_free hour) bs b e in
     let p = and_parts (eqb b.hour.0 hour) (not b.held) l.passes in

@@ -1,6 +1,6 @@
 -- The standing bids as the calls speak of them. Assumes nothing.
 use Rattle.std.specs.Prelude.{ℕ, ◌+◌, Bool, cond, not, ◌&&◌, List, [], ◌∷◌, map, length, Some, None, filter, Option, ◌==◌, nat_lt}
-use Rattle.std.specs.List.{slice_get, AllByRecursion as All}
+use Rattle.std.specs.List.{slice_get, AllByRecursion}
 use Rattle.std.specs.Option.{option_or}
 use Rattle.ordered.specs.Listed.{items}
 use Rattle.ordered.specs.Order.{placed}
@@ -114,4 +114,4 @@ bid_at s (Some p) = slice_get (bids_of p.0 s) p.1
 
 -- P holds of each standing bid
 abbrev pub AllBids : (Bid → Type 0) → StandingBids → Type 0
-AllBids P s = All P s.up × All P s.down
+AllBids P s = AllByRecursion P s.up × AllByRecursion P s.down

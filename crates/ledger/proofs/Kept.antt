@@ -1,6 +1,6 @@
 -- What every run of lawful calls keeps.
 use Rattle.std.proofs.Common.{◌≡◌, ℕ, ◌+◌, ◌<◌, ◌≤◌, Bool, eqb, ◌⊎◌, List, [], ◌∷◌, length, Some, None, Option, sym, refl, ◌∙◌, subst, inl, inr, ⊎_elim, arith}
-use Rattle.std.specs.List.{AllByRecursion as All}
+use Rattle.std.specs.List.{AllByRecursion}
 use Rattle.std.proofs.ByRecursion.{All-weaker}
 use Rattle.std.proofs.lemmas.Bool.{cases_eq, cond-true, cond-false, eq-eqb, ne_eqb}
 use Rattle.ordered.proofs.Lexical.{lex_order}
@@ -37,7 +37,7 @@ pub record ActivationSound (opening : Opening) (n : ℕ) (a : Activation) : Type
 pub record Kept (f : Figures) : Type 0 where
   pub spots : LawfulOpening f.opening
   pub bids : AllBids (BidSound f.opening f.parties) f.bids
-  pub activations : All (ActivationSound f.opening f.parties) f.activations
+  pub activations : AllByRecursion (ActivationSound f.opening f.parties) f.activations
   pub unsettled : (f.stage ≡ Metered → ⊥) → (h : ℕ) → f.settled h ≡ None
   pub rules : (h : ℕ) (m : Facts → Prices) → f.settled h ≡ Some m → ShowsRules m
   pub in_the_day : (h : ℕ) (m : Facts → Prices) → f.settled h ≡ Some m → h < f.opening.hours
@@ -59,7 +59,7 @@ sound_arrived : (o : Opening) (n k : ℕ) (a : Activation) → ActivationSound o
 sound_arrived o n k a s =
     record { entered = s.entered; listed = λ e. let t = s.listed e in record { price_within = t.price_within; side = t.side; enough = t.enough; lasts = t.lasts } }
 
-pub all_with : (P : Activation → Type 0) → ((k : ℕ) (a : Activation) → P a → P (arrived k a)) → (a : Activation) (xs : List Activation) → P a → All P xs → All P (with_activation a xs)
+pub all_with : (P : Activation → Type 0) → ((k : ℕ) (a : Activation) → P a → P (arrived k a)) → (a : Activation) (xs : List Activation) → P a → AllByRecursion P xs → AllByRecursion P (with_activation a xs)
 unfolding with_activation
 all_with P keeps a xs p all = all_placed (lex_order activation_key) P xs (arrived (length xs) a) (keeps (length xs) a p) all
 

@@ -1,6 +1,6 @@
 -- What is kept of a record that is the same, once another is put at its place or left out.
 use Rattle.std.proofs.Common.{◌≡◌, ℕ, Bool, true, false, cond, not, List, [], ◌∷◌, ◌++◌, ℤ, pos, filter, sym, refl, ap, ◌∙◌, ⊎_elim, arith}
-use Rattle.std.specs.List.{AllByRecursion as All}
+use Rattle.std.specs.List.{AllByRecursion}
 use Rattle.std.proofs.ByRecursion.{All-weaker, kept_by_passes}
 use Rattle.std.proofs.lemmas.Bool.{both_ways, cases_Bool, cond-true, cond-false, not_from_false, not-true}
 use Rattle.ordered.specs.Order.{TotalOrder, exactly_one, placed, without}
@@ -17,17 +17,17 @@ pub neither : (b : Bool) → (b ≡ true → ⊥) → b ≡ false
 neither b n = ⊎_elim (λ t. absurd (n t)) (λ f. f) (cases_Bool b)
 
 module _ {X : Type 0} (same : X → X → Bool) (value : X → ℤ) where
-  pub none_like : (x : X) (xs : List X) → All (λ y. same y x ≡ false) xs → value_like same value x xs ≡ pos 0
+  pub none_like : (x : X) (xs : List X) → AllByRecursion (λ y. same y x ≡ false) xs → value_like same value x xs ≡ pos 0
   unfolding value_like
   none_like x [] a = refl
   none_like x (y ∷ xs) a = cond-false (same y x) (value y) (value_like same value x xs) a.0 ∙ none_like x xs a.1
 
-  past_none : (x : X) (xs ys : List X) → All (λ y. same y x ≡ false) xs → value_like same value x (xs ++ ys) ≡ value_like same value x ys
+  past_none : (x : X) (xs ys : List X) → AllByRecursion (λ y. same y x ≡ false) xs → value_like same value x (xs ++ ys) ≡ value_like same value x ys
   unfolding value_like
   past_none x [] ys a = refl
   past_none x (y ∷ xs) ys a = cond-false (same y x) (value y) (value_like same value x (xs ++ ys)) a.0 ∙ past_none x xs ys a.1
 
-  in_front : (x : X) (xs ys : List X) → All (λ y. same y x ≡ false) ys → value_like same value x (xs ++ ys) ≡ value_like same value x xs
+  in_front : (x : X) (xs ys : List X) → AllByRecursion (λ y. same y x ≡ false) ys → value_like same value x (xs ++ ys) ≡ value_like same value x xs
   unfolding value_like
   in_front x [] ys a = none_like x ys a
   in_front x (y ∷ xs) ys a = ap (λ z. cond (same y x) (value y) z) (in_front x xs ys a)

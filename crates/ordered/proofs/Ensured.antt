@@ -2,7 +2,7 @@
 use Rattle.std.proofs.Common.{◌≡◌, ℕ, ◌<◌, ◌≤◌, Bool, true, false, ◌||◌, ltb, List, length, get_or, take, drop, is_some, IfSome, Some, None, Ok, Err, Option, Result, sym, refl, ap, subst, Bor}
 use Rattle.std.proofs.lemmas.Option.{slice_get_past, slice_get_read}
 use Rattle.std.proofs.lemmas.Bool.{both_ways, le-ltb, lt-ltb, or_from, or_left, or_right}
-use Rattle.std.specs.List.{slice_get, AllByRecursion as All}
+use Rattle.std.specs.List.{slice_get, AllByRecursion}
 use Rattle.std.specs.Option.{option_map}
 use Rattle.std.specs.Slice.{IsGetResult}
 use Rattle.std.specs.Result.{result_ok}
@@ -25,7 +25,7 @@ module _ {X : Type 0} {before same : X → X → Bool} (o : TotalOrder before sa
   pub room_test : (xs : List X) (n : ℕ) (x : X) → length xs < n → true ≡ Takes xs n x
   room_test xs n x l = sym (or_left (ltb (length xs) n) (held same x xs) (lt-ltb (length xs) n l))
 
-  pub full_test : (xs : List X) (n k : ℕ) (x : X) → n ≤ length xs → All (λ y. before y x ≡ true) (take k xs) × All (λ y. before x y ≡ true) (drop k xs) → false ≡ Takes xs n x
+  pub full_test : (xs : List X) (n k : ℕ) (x : X) → n ≤ length xs → AllByRecursion (λ y. before y x ≡ true) (take k xs) × AllByRecursion (λ y. before x y ≡ true) (drop k xs) → false ≡ Takes xs n x
   full_test xs n k x l p =
       sym (or_from (ltb (length xs) n) (held same x xs) (le-ltb (length xs) n l) (not_held_between o xs k x p.0 p.1))
 

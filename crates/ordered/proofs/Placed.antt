@@ -4,7 +4,7 @@ use Rattle.std.proofs.lemmas.List.Elements.{filter-append}
 use Rattle.std.proofs.ByRecursion.{All-append, all-has, all_has_itself, all_kept_by, All-weaker, has_append_left, has_append_right, kept_by_passes}
 use Rattle.std.proofs.lemmas.List.{append-nil, length-append, set-get_or, set_split, take-append-drop}
 use Rattle.std.proofs.lemmas.Bool.{both_ways, cond_both, cond-false, cond-true}
-use Rattle.std.specs.List.{insert, ContainsAt as Has, AllByRecursion as All}
+use Rattle.std.specs.List.{insert, ContainsAt as Has, AllByRecursion}
 use Rattle.ordered.specs.Order.{TotalOrder, held, placed, rises}
 use Rattle.ordered.proofs.Laws.{before_same, only_before, only_same, same_back, same_before, not_same_after, sides}
 use Rattle.ordered.proofs.Rising.{back_after, before_later, front_before, rises_cons, rises_join, rises_tail}
@@ -14,17 +14,17 @@ one_more true m n e = ap suc e
 one_more false m n e = omega arith
 
 module _ {X : Type 0} where
-  pub kept_all : (p : X → Bool) (xs : List X) → All (λ y. p y ≡ true) xs → filter p xs ≡ xs
+  pub kept_all : (p : X → Bool) (xs : List X) → AllByRecursion (λ y. p y ≡ true) xs → filter p xs ≡ xs
   kept_all p [] a = refl
   kept_all p (x ∷ xs) a = cond-true (p x) _ _ a.0 ∙ ap (λ ys. x ∷ ys) (kept_all p xs a.1)
 
-  pub kept_none : (p : X → Bool) (xs : List X) → All (λ y. p y ≡ false) xs → filter p xs ≡ []
+  pub kept_none : (p : X → Bool) (xs : List X) → AllByRecursion (λ y. p y ≡ false) xs → filter p xs ≡ []
   kept_none p [] a = refl
   kept_none p (x ∷ xs) a = cond-false (p x) _ _ a.0 ∙ kept_none p xs a.1
 
 module _ {X : Type 0} {before same : X → X → Bool} (o : TotalOrder before same) where
   -- m is nothing, or a record that is the same as x
-  between : (fs m bs : List X) (x : X) → All (λ y. before y x ≡ true) fs → All (λ y. same y x ≡ true) m → All (λ y. before x y ≡ true) bs → placed before x (fs ++ (m ++ bs)) ≡ fs ++ x ∷ bs
+  between : (fs m bs : List X) (x : X) → AllByRecursion (λ y. before y x ≡ true) fs → AllByRecursion (λ y. same y x ≡ true) m → AllByRecursion (λ y. before x y ≡ true) bs → placed before x (fs ++ (m ++ bs)) ≡ fs ++ x ∷ bs
   between fs m bs x f s b =
       let low : X → Bool = λ y. before y x in
       let high : X → Bool = λ y. before x y in
@@ -44,7 +44,7 @@ module _ {X : Type 0} {before same : X → X → Bool} (o : TotalOrder before sa
       ∙ rest-high in
       ap (λ ys. ys ++ x ∷ filter high (fs ++ (m ++ bs))) low-is ∙ ap (λ ys. fs ++ x ∷ ys) high_is
 
-  pub placed_inserted : (xs : List X) (i : ℕ) (x : X) → All (λ y. before y x ≡ true) (take i xs) → All (λ y. before x y ≡ true) (drop i xs) → placed before x xs ≡ insert xs i x
+  pub placed_inserted : (xs : List X) (i : ℕ) (x : X) → AllByRecursion (λ y. before y x ≡ true) (take i xs) → AllByRecursion (λ y. before x y ≡ true) (drop i xs) → placed before x xs ≡ insert xs i x
   placed_inserted xs i x f b =
       subst (λ ys. placed before x ys ≡ insert xs i x) (take-append-drop i xs) (between (take i xs) [] (drop i xs) x f tt b)
 
@@ -52,8 +52,8 @@ module _ {X : Type 0} {before same : X → X → Bool} (o : TotalOrder before sa
   placed_set xs i x d h w s =
       let y = get_or xs i d in
       let split : take i xs ++ y ∷ drop (suc i) xs ≡ xs = sym (set_split xs i y w) ∙ set-get_or xs i d in
-      let f : All (λ z. before z x ≡ true) (take i xs) = All-weaker (λ z. before z y ≡ true) (λ z. before z x ≡ true) (λ z p. before_same o z y x p s) (take i xs) (front_before o xs i d h w) in
-      let b : All (λ z. before x z ≡ true) (drop (suc i) xs) = All-weaker (λ z. before y z ≡ true) (λ z. before x z ≡ true) (λ z. same_before o x y z (same_back o y x s)) (drop (suc i) xs) (back_after o xs i d h w) in
+      let f : AllByRecursion (λ z. before z x ≡ true) (take i xs) = All-weaker (λ z. before z y ≡ true) (λ z. before z x ≡ true) (λ z p. before_same o z y x p s) (take i xs) (front_before o xs i d h w) in
+      let b : AllByRecursion (λ z. before x z ≡ true) (drop (suc i) xs) = All-weaker (λ z. before y z ≡ true) (λ z. before x z ≡ true) (λ z. same_before o x y z (same_back o y x s)) (drop (suc i) xs) (back_after o xs i d h w) in
       ap (placed before x) (sym split) ∙ between (take i xs) (y ∷ []) (drop (suc i) xs) x f (s, tt) b ∙ sym (set_split xs i x w)
 
   rises_kept : (p : X → Bool) (xs : List X) → rises before xs ≡ true → rises before (filter p xs) ≡ true
@@ -70,7 +70,7 @@ module _ {X : Type 0} {before same : X → X → Bool} (o : TotalOrder before sa
       (rises_kept (λ y. before y x) xs h) (kept_by_passes (λ y. before y x) xs)
       (kept_by_passes (λ y. before x y) xs) (rises_kept (λ y. before x y) xs h)
 
-  pub all_placed : (P : X → Type 0) (xs : List X) (x : X) → P x → All P xs → All P (placed before x xs)
+  pub all_placed : (P : X → Type 0) (xs : List X) (x : X) → P x → AllByRecursion P xs → AllByRecursion P (placed before x xs)
   all_placed P xs x p a = All-append P (filter (λ y. before y x) xs) (x ∷ filter (λ y. before x y) xs) (all_kept_by (λ y. before y x) P xs a) (p, all_kept_by (λ y. before x y) P xs a)
 
   -- how many stand before and after x
@@ -85,7 +85,7 @@ module _ {X : Type 0} {before same : X → X → Bool} (o : TotalOrder before sa
       elim (sides o y x) [
         | inl w ↦ rw (w.0, w.1, w.2) (let e : suc before-x + suc after-x ≡ suc (before-x + suc after-x) = omega arith in e ∙ one_more (held same x ys) _ _ rest)
         | inr (inl w) ↦
-            let b : All (λ z. before x z ≡ true) ys = All-weaker (λ z. before y z ≡ true) (λ z. before x z ≡ true) (λ z. same_before o x y z (same_back o y x w.0)) ys (before_later o y ys h) in
+            let b : AllByRecursion (λ z. before x z ≡ true) ys = All-weaker (λ z. before y z ≡ true) (λ z. before x z ≡ true) (λ z. same_before o x y z (same_back o y x w.0)) ys (before_later o y ys h) in
             let none : before-x ≡ 0 = ap length (kept_none low ys (All-weaker (λ z. before x z ≡ true) (λ z. before z x ≡ false) (λ z p. (only_before o x z p).1) ys b)) in
             let all : after-x ≡ length ys = ap length (kept_all high ys b) in
             rw (w.0, w.1, w.2) (omega arith)
@@ -101,11 +101,11 @@ module _ {X : Type 0} {before same : X → X → Bool} (o : TotalOrder before sa
   has_kept p xs y h =
       (all-has (Has xs) (filter p xs) y (all_kept_by p (Has xs) xs (all_has_itself xs)) h, all-has (λ z. p z ≡ true) (filter p xs) y (kept_by_passes p xs) h)
 
-  keeps_all : (p : X → Bool) (xs : List X) → All (λ y. p y ≡ true → Has (filter p xs) y) xs
+  keeps_all : (p : X → Bool) (xs : List X) → AllByRecursion (λ y. p y ≡ true → Has (filter p xs) y) xs
   keeps_all p [] = tt
   keeps_all p (x ∷ xs) =
       let rest = keeps_all p xs in
-      cond_both (p x) (x ∷ filter p xs) (filter p xs) (λ ys. All (λ y. p y ≡ true → Has ys y) (x ∷ xs))
+      cond_both (p x) (x ∷ filter p xs) (filter p xs) (λ ys. AllByRecursion (λ y. p y ≡ true → Has ys y) (x ∷ xs))
       (λ _. (λ _. (0, omega arith, λ d. refl), All-weaker (λ y. p y ≡ true → Has (filter p xs) y) (λ y. p y ≡ true → Has (x ∷ filter p xs) y) (λ y f e. has_append_right (x ∷ []) (filter p xs) y (f e)) xs rest))
       (λ n. (λ e. absurd (both_ways _ n e), rest))
 
@@ -131,7 +131,7 @@ module _ {X : Type 0} {before same : X → X → Bool} (o : TotalOrder before sa
       let P : X → Type 0 = λ z. (z ≡ x) ⊎ (Has xs z × (same z x ≡ false)) in
       let low = filter (λ z. before z x) xs in
       let high = filter (λ z. before x z) xs in
-      let old : All (Has xs) xs = all_has_itself xs in
+      let old : AllByRecursion (Has xs) xs = all_has_itself xs in
       all-has P (placed before x xs) y
       (All-append P low (x ∷ high)
       (All-weaker (λ z. Has low z) P (λ z k. let w = has_kept (λ v. before v x) xs z k in inr (w.0, (only_before o z x w.1).0)) low (all_has_itself low))

@@ -4,14 +4,14 @@ use Rattle.std.proofs.lemmas.List.Elements.{filter-append}
 use Rattle.std.proofs.ByRecursion.{All-append, All-drop, all-has, all_has_itself, All-take, All-weaker, has_append_left, has_append_right}
 use Rattle.std.proofs.lemmas.List.{set-get_or, set_split}
 use Rattle.std.proofs.lemmas.Bool.{both_ways, cond-false, not_from_false, not_from_true}
-use Rattle.std.specs.List.{remove, ContainsAt as Has, AllByRecursion as All}
+use Rattle.std.specs.List.{remove, ContainsAt as Has, AllByRecursion}
 use Rattle.ordered.specs.Order.{SameAt, TotalOrder, held, rises, without}
 use Rattle.ordered.proofs.Laws.{before_same, not_same_after, only_before, same_back, same_before, same_itself}
 use Rattle.ordered.proofs.Placed.{kept_all}
 use Rattle.ordered.proofs.Rising.{back_after, before_later, front_before, none_same, not_held, rises_cons, rises_tail}
 
 module _ {X : Type 0} where
-  pub all_removed : (P : X → Type 0) (xs : List X) (i : ℕ) → All P xs → All P (remove xs i)
+  pub all_removed : (P : X → Type 0) (xs : List X) (i : ℕ) → AllByRecursion P xs → AllByRecursion P (remove xs i)
   all_removed P xs i a = All-append P (take i xs) (drop (suc i) xs) (All-take P i xs a) (All-drop P (suc i) xs a)
 
   pub removed_past : (xs : List X) (i : ℕ) → length xs ≤ i → xs ≡ remove xs i
@@ -48,7 +48,7 @@ module _ {X : Type 0} {before same : X → X → Bool} (o : TotalOrder before sa
       let bs = drop (suc i) xs in
       let P : X → Type 0 = λ z. same z x ≡ false → Has (fs ++ bs) z in
       let split : fs ++ x ∷ bs ≡ xs = sym (set_split xs i x w) ∙ set-get_or xs i d in
-      all-has P xs y (subst (All P) split (All-append P fs (x ∷ bs)
+      all-has P xs y (subst (AllByRecursion P) split (All-append P fs (x ∷ bs)
       (All-weaker (λ z. Has fs z) P (λ z k _. has_append_left fs bs z k) fs (all_has_itself fs))
       (λ e. absurd (both_ways _ e (same_itself o x)), All-weaker (λ z. Has bs z) P (λ z k _. has_append_right fs bs z k) bs (all_has_itself bs)))) h n
 

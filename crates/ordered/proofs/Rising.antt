@@ -3,7 +3,7 @@ use Rattle.std.proofs.Common.{◌≡◌, ℕ, zero, suc, ◌+◌, ◌<◌, Bool,
 use Rattle.std.proofs.ByRecursion.{All-append, All-get_or, All-more, All-weaker}
 use Rattle.std.proofs.lemmas.List.{drop_more, take-append-drop}
 use Rattle.std.proofs.lemmas.Bool.{and_from, and_parts, both_ways, cases_order, or_from, or_left, or_parts, or_right}
-use Rattle.std.specs.List.{AllByRecursion as All}
+use Rattle.std.specs.List.{AllByRecursion}
 use Rattle.ordered.specs.Order.{TotalOrder, held, rises}
 use Rattle.ordered.proofs.Laws.{not_same_after, only_before, same_back}
 
@@ -13,13 +13,13 @@ module _ {X : Type 0} {before same : X → X → Bool} (o : TotalOrder before sa
   rises_tail x (y ∷ ys) h = (and_parts _ _ h).1
 
   -- a record is before every later one
-  pub before_later : (x : X) (xs : List X) → rises before (x ∷ xs) ≡ true → All (λ y. before x y ≡ true) xs
+  pub before_later : (x : X) (xs : List X) → rises before (x ∷ xs) ≡ true → AllByRecursion (λ y. before x y ≡ true) xs
   before_later x [] h = tt
   before_later x (y ∷ ys) h =
       let p = and_parts (before x y) (rises before (y ∷ ys)) h in
       (p.0, All-weaker (λ z. before y z ≡ true) (λ z. before x z ≡ true) (λ z. o.before_on x y z p.0) ys (before_later y ys p.1))
 
-  pub rises_cons : (x : X) (xs : List X) → All (λ y. before x y ≡ true) xs → rises before xs ≡ true → rises before (x ∷ xs) ≡ true
+  pub rises_cons : (x : X) (xs : List X) → AllByRecursion (λ y. before x y ≡ true) xs → rises before xs ≡ true → rises before (x ∷ xs) ≡ true
   rises_cons x [] a h = refl
   rises_cons x (y ∷ ys) a h = and_from (before x y) (rises before (y ∷ ys)) a.0 h
 
@@ -31,18 +31,18 @@ module _ {X : Type 0} {before same : X → X → Bool} (o : TotalOrder before sa
   before_far (x ∷ xs) (suc i) (suc j) d h l w = before_far xs i j d (rises_tail x xs h) (omega arith) (omega arith)
 
   -- what stands before and after the place i
-  pub front_before : (xs : List X) (i : ℕ) (d : X) → rises before xs ≡ true → i < length xs → All (λ y. before y (get_or xs i d) ≡ true) (take i xs)
+  pub front_before : (xs : List X) (i : ℕ) (d : X) → rises before xs ≡ true → i < length xs → AllByRecursion (λ y. before y (get_or xs i d) ≡ true) (take i xs)
   front_before [] i d h w = absurd (omega arith)
   front_before (x ∷ xs) zero d h w = tt
   front_before (x ∷ xs) (suc i) d h w = (before_far (x ∷ xs) 0 (suc i) d h (omega arith) w, front_before xs i d (rises_tail x xs h) (omega arith))
 
-  pub back_after : (xs : List X) (i : ℕ) (d : X) → rises before xs ≡ true → i < length xs → All (λ y. before (get_or xs i d) y ≡ true) (drop (suc i) xs)
+  pub back_after : (xs : List X) (i : ℕ) (d : X) → rises before xs ≡ true → i < length xs → AllByRecursion (λ y. before (get_or xs i d) y ≡ true) (drop (suc i) xs)
   back_after [] i d h w = absurd (omega arith)
   back_after (x ∷ xs) zero d h w = before_later x xs h
   back_after (x ∷ xs) (suc i) d h w = back_after xs i d (rises_tail x xs h) (omega arith)
 
   -- a list, a record and a list
-  pub rises_join : (fs : List X) (x : X) (bs : List X) → rises before fs ≡ true → All (λ y. before y x ≡ true) fs → All (λ y. before x y ≡ true) bs → rises before bs ≡ true → rises before (fs ++ x ∷ bs) ≡ true
+  pub rises_join : (fs : List X) (x : X) (bs : List X) → rises before fs ≡ true → AllByRecursion (λ y. before y x ≡ true) fs → AllByRecursion (λ y. before x y ≡ true) bs → rises before bs ≡ true → rises before (fs ++ x ∷ bs) ≡ true
   rises_join [] x bs r a b s = rises_cons x bs b s
   rises_join (y ∷ fs) x bs r a b s =
       rises_cons y (fs ++ x ∷ bs)
@@ -55,11 +55,11 @@ module _ {X : Type 0} {before same : X → X → Bool} (o : TotalOrder before sa
   held_at (y ∷ ys) zero x d w h = or_left _ _ h
   held_at (y ∷ ys) (suc k) x d w h = or_right _ _ (held_at ys k x d (omega arith) h)
 
-  pub not_held : (x : X) (xs : List X) → All (λ y. same y x ≡ false) xs → held same x xs ≡ false
+  pub not_held : (x : X) (xs : List X) → AllByRecursion (λ y. same y x ≡ false) xs → held same x xs ≡ false
   not_held x [] a = refl
   not_held x (y ∷ ys) a = or_from _ _ a.0 (not_held x ys a.1)
 
-  pub none_same : (x : X) (xs : List X) → held same x xs ≡ false → All (λ y. same y x ≡ false) xs
+  pub none_same : (x : X) (xs : List X) → held same x xs ≡ false → AllByRecursion (λ y. same y x ≡ false) xs
   none_same x [] h = tt
   none_same x (y ∷ ys) h = let p = or_parts (same y x) (held same x ys) h in (p.0, none_same x ys p.1)
 
@@ -75,26 +75,26 @@ module _ {X : Type 0} {before same : X → X → Bool} (o : TotalOrder before sa
 
   -- ---- a search by halves
   -- x stands past the place m
-  pub past : (xs : List X) (m : ℕ) (x y : X) → rises before xs ≡ true → m < length xs → y ≡ get_or xs m y → before y x ≡ true → All (λ z. before z x ≡ true) (take (m + 1) xs)
+  pub past : (xs : List X) (m : ℕ) (x y : X) → rises before xs ≡ true → m < length xs → y ≡ get_or xs m y → before y x ≡ true → AllByRecursion (λ z. before z x ≡ true) (take (m + 1) xs)
   past xs m x y h w e b =
       let here : before (get_or xs m y) x ≡ true = subst (λ z. before z x ≡ true) e b in
       All-more (λ z. before z x ≡ true) xs m y w (All-weaker (λ z. before z (get_or xs m y) ≡ true) (λ z. before z x ≡ true) (λ z p. o.before_on z (get_or xs m y) x p here) (take m xs) (front_before xs m y h w)) here
 
   -- x stands before the place m
-  pub short : (xs : List X) (m : ℕ) (x y : X) → rises before xs ≡ true → m < length xs → y ≡ get_or xs m y → before x y ≡ true → All (λ z. before x z ≡ true) (drop m xs)
+  pub short : (xs : List X) (m : ℕ) (x y : X) → rises before xs ≡ true → m < length xs → y ≡ get_or xs m y → before x y ≡ true → AllByRecursion (λ z. before x z ≡ true) (drop m xs)
   short xs m x y h w e b =
       let here : before x (get_or xs m y) ≡ true = subst (λ z. before x z ≡ true) e b in
-      let rest : All (λ z. before x z ≡ true) (drop (suc m) xs) = All-weaker (λ z. before (get_or xs m y) z ≡ true) (λ z. before x z ≡ true) (λ z. o.before_on x (get_or xs m y) z here) (drop (suc m) xs) (back_after xs m y h w) in
-      subst (All (λ z. before x z ≡ true)) (sym (drop_more xs m y w)) (here, subst (λ n. All (λ z. before x z ≡ true) (drop n xs)) (sym (add-one m)) rest)
+      let rest : AllByRecursion (λ z. before x z ≡ true) (drop (suc m) xs) = All-weaker (λ z. before (get_or xs m y) z ≡ true) (λ z. before x z ≡ true) (λ z. o.before_on x (get_or xs m y) z here) (drop (suc m) xs) (back_after xs m y h w) in
+      subst (AllByRecursion (λ z. before x z ≡ true)) (sym (drop_more xs m y w)) (here, subst (λ n. AllByRecursion (λ z. before x z ≡ true) (drop n xs)) (sym (add-one m)) rest)
 
   -- at the start nothing is left out, and at the end nothing is left
-  pub none_left_out : (P : X → Type 0) (xs : List X) → All P (drop (length xs) xs)
+  pub none_left_out : (P : X → Type 0) (xs : List X) → AllByRecursion P (drop (length xs) xs)
   none_left_out P [] = tt
   none_left_out P (x ∷ xs) = none_left_out P xs
 
-  pub not_held_between : (xs : List X) (k : ℕ) (x : X) → All (λ y. before y x ≡ true) (take k xs) → All (λ y. before x y ≡ true) (drop k xs) → held same x xs ≡ false
+  pub not_held_between : (xs : List X) (k : ℕ) (x : X) → AllByRecursion (λ y. before y x ≡ true) (take k xs) → AllByRecursion (λ y. before x y ≡ true) (drop k xs) → held same x xs ≡ false
   not_held_between xs k x f b =
       let P : X → Type 0 = λ y. same y x ≡ false in
-      not_held x xs (subst (All P) (take-append-drop k xs) (All-append P (take k xs) (drop k xs)
+      not_held x xs (subst (AllByRecursion P) (take-append-drop k xs) (All-append P (take k xs) (drop k xs)
       (All-weaker (λ y. before y x ≡ true) P (λ y h. (only_before o y x h).0) (take k xs) f)
       (All-weaker (λ y. before x y ≡ true) P (λ y h. not_same_after o x y h) (drop k xs) b)))

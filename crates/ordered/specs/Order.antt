@@ -7,7 +7,7 @@
 --     without same x xs           xs less the record that is the same as x
 --     Sought before same xs x r   what seeking x in xs answers
 use Rattle.std.specs.Prelude.{◌≡◌, ℕ, ◌<◌, ◌≤◌, Bool, true, false, not, ◌&&◌, ◌||◌, List, [], ◌∷◌, ◌++◌, length, take, drop, Ok, Err, filter, Result, slice_index_or}
-use Rattle.std.specs.List.{AllByRecursion as All}
+use Rattle.std.specs.List.{AllByRecursion}
 
 abbrev pub exactly_one : Bool → Bool → Bool → Bool
 exactly_one true q r = not (q || r)
@@ -41,4 +41,4 @@ SameAt same xs k x = (k < length xs) × (same (slice_index_or xs k x) x ≡ true
 -- `Ok k`: the record at k is the same. `Err k`: k is where x would be inserted, if xs rises.
 abbrev pub Sought : {X : Type 0} → (X → X → Bool) → (X → X → Bool) → List X → X → Result ℕ ℕ → Type 0
 Sought before same xs x (Ok k) = SameAt same xs k x
-Sought before same xs x (Err k) = (k ≤ length xs) × (rises before xs ≡ true → All (λ y. before y x ≡ true) (take k xs) × All (λ y. before x y ≡ true) (drop k xs))
+Sought before same xs x (Err k) = (k ≤ length xs) × (rises before xs ≡ true → AllByRecursion (λ y. before y x ≡ true) (take k xs) × AllByRecursion (λ y. before x y ≡ true) (drop k xs))

@@ -1,13 +1,13 @@
 -- The tables of worked hours, row by row, and that their hours are regular. Assumes nothing.
 use Rattle.std.proofs.Common.{◌≡◌, List, ◌∷◌, sym, subst, arith}
 use Rattle.std.proofs.lemmas.Int.{ints}
-use Rattle.std.specs.List.{AllByRecursion as All}
+use Rattle.std.specs.List.{AllByRecursion}
 use Rattle.pricing.specs.declared.PricedHour.{PricedHour}
 use Rattle.pricing.specs.Policies.{Regular}
 use Rattle.pricing.specs.Worked.{nordic_cases, dutch_cases}
 
 abbrev AllRegular : List PricedHour → Type 0
-AllRegular = All (λ h. Regular h.facts)
+AllRegular = AllByRecursion (λ h. Regular h.facts)
 
 pub row : {x y : PricedHour} {xs ys : List PricedHour} → x ≡ y → xs ≡ ys → (x ∷ xs) ≡ (y ∷ ys)
 row p q = cc

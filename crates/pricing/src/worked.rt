@@ -1,6 +1,6 @@
 // Hours that docs/pricing.md prices by hand.
 ghost use Rattle.std.specs.Prelude.{◌≡◌};
-ghost use Rattle.std.specs.List.{AllByRecursion as All};
+ghost use Rattle.std.specs.List.{AllByRecursion};
 ghost use Rattle.pricing.specs.Policies.{Regular};
 ghost use Rattle.pricing.specs.Worked.{nordic_cases, dutch_cases};
 
@@ -35,7 +35,7 @@ const DOWNWARD: Facts = Facts {
 
 pub fn nordic_cases() -> [PricedHour; 4]
     ensures table { result ≡ nordic_cases }
-    ensures regular { All (λ h. Regular h.facts) result }
+    ensures regular { AllByRecursion (λ h. Regular h.facts) result }
 {
     let upward = Facts {
         down_price: Price(3000),
@@ -62,7 +62,7 @@ pub fn nordic_cases() -> [PricedHour; 4]
 
 pub fn dutch_cases() -> [PricedHour; 7]
     ensures table { result ≡ dutch_cases }
-    ensures regular { All (λ h. Regular h.facts) result }
+    ensures regular { AllByRecursion (λ h. Regular h.facts) result }
 {
     let both = Facts {
         went_down: true,

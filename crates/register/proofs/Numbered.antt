@@ -1,6 +1,6 @@
 -- Numbers of arrival are given in turn, so a new one is the same as none that is held.
 use Rattle.std.proofs.Common.{◌≡◌, ℕ, ◌+◌, ◌<◌, Bool, true, false, cond, ◌||◌, ltb, List, [], ◌∷◌, length, sym, refl, ap, ◌∙◌, subst, ⊎_elim, arith}
-use Rattle.std.specs.List.{AllByRecursion as All}
+use Rattle.std.specs.List.{AllByRecursion}
 use Rattle.std.proofs.ByRecursion.{All-weaker}
 use Rattle.std.proofs.lemmas.Bool.{and_parts, and_from, ltb-true, lt-ltb, or_left, cond-true, cond-false, cases_Bool}
 use Rattle.ordered.specs.Order.{held, placed, rises}
@@ -15,12 +15,12 @@ use Rattle.register.specs.Registered.{arrived, with_activation}
 abbrev Earlier : ℕ → Activation → Type 0
 Earlier n a = a.arrival < n
 
-earlier_from : (n : ℕ) (xs : List Activation) → arrived_below n xs ≡ true → All (Earlier n) xs
+earlier_from : (n : ℕ) (xs : List Activation) → arrived_below n xs ≡ true → AllByRecursion (Earlier n) xs
 earlier_from n [] h = tt
 earlier_from n (x ∷ xs) h =
     let p = and_parts (ltb x.arrival n) (arrived_below n xs) h in (ltb-true x.arrival n p.0, earlier_from n xs p.1)
 
-to_earlier : (n : ℕ) (xs : List Activation) → All (Earlier n) xs → arrived_below n xs ≡ true
+to_earlier : (n : ℕ) (xs : List Activation) → AllByRecursion (Earlier n) xs → arrived_below n xs ≡ true
 to_earlier n [] a = refl
 to_earlier n (x ∷ xs) a = and_from (ltb x.arrival n) (arrived_below n xs) (lt-ltb x.arrival n a.0) (to_earlier n xs a.1)
 
@@ -41,7 +41,7 @@ module _ (xs : List Activation) (a : Activation) (rising : rises activation_befo
   unfolding with_activation
   longer = length_placed (lex_order activation_key) xs (arrived (length xs) a) rising ∙ cond-false _ _ _ not_yet
 
-  all_earlier : All (Earlier (length xs + 1)) (with_activation a xs)
+  all_earlier : AllByRecursion (Earlier (length xs + 1)) (with_activation a xs)
   unfolding with_activation
   all_earlier =
       all_placed (lex_order activation_key) (Earlier (length xs + 1)) xs (arrived (length xs) a) (omega arith)

@@ -1,6 +1,6 @@
 -- A balanced hour regulated one way never costs the operator, but for what short activations gain.
 use Rattle.std.proofs.Common.{◌≡◌, ℕ, ◌+◌, ◌≤◌, Bool, true, false, cond, not, ◌&&◌, leb, List, [], ◌∷◌, ℤ, pos, ◌+ℤ◌, ◌-ℤ◌, ◌*ℤ◌, neg_ℤ, ◌≤ℤ◌, sym, refl, ap, ◌∙◌, subst, arith}
-use Rattle.std.specs.List.{AllByRecursion as All}
+use Rattle.std.specs.List.{AllByRecursion}
 use lib.IntN.{*ℤ_comm, *ℤ-zero}
 use Rattle.std.proofs.lemmas.Int.{ints}
 use Rattle.std.proofs.ByRecursion.{All-weaker}
@@ -90,12 +90,12 @@ bound short long paid gained v w x a b e f = omega (arith, ints)
 
 -- all activations of the hour are listed, and in that direction
 abbrev pub AllOneWay : Direction → Hour → Type 0
-AllOneWay d hour = All (λ a. of_hour hour.position a ≡ true → (a.kind ≡ Listed) × (a.direction ≡ d)) hour.activations
+AllOneWay d hour = AllByRecursion (λ a. of_hour hour.position a ≡ true → (a.kind ≡ Listed) × (a.direction ≡ d)) hour.activations
 
 pub all_one_way : (d : Direction) (hour : Hour) → NoneSpecial hour → ListedOneWay d hour → AllOneWay d hour
 all_one_way d hour none one = both hour.activations none one
   where
-    both : (xs : List Activation) → All (λ a. of_hour hour.position a ≡ true → a.kind ≡ Listed) xs → All (λ a. of_hour hour.position a ≡ true → a.kind ≡ Listed → a.direction ≡ d) xs → All (λ a. of_hour hour.position a ≡ true → (a.kind ≡ Listed) × (a.direction ≡ d)) xs
+    both : (xs : List Activation) → AllByRecursion (λ a. of_hour hour.position a ≡ true → a.kind ≡ Listed) xs → AllByRecursion (λ a. of_hour hour.position a ≡ true → a.kind ≡ Listed → a.direction ≡ d) xs → AllByRecursion (λ a. of_hour hour.position a ≡ true → (a.kind ≡ Listed) × (a.direction ≡ d)) xs
     both [] n o = tt
     both (x ∷ xs) n o = (λ h. (n.0 h, o.0 h (n.0 h)), both xs n.1 o.1)
 

@@ -1,7 +1,7 @@
 -- How far from 0 an hour's imbalances lie, and what is due for them.
 use Rattle.std.proofs.Common.{ℕ, ◌+◌, ◌*◌, ◌^◌, ◌≤◌, Bool, true, false, cond, ◌&&◌, eqb, List, length, ℤ, pos, ◌+ℤ◌, ◌-ℤ◌, ◌*ℤ◌, neg_ℤ, nat_abs, arith}
 use lib.Signed.{lt_z}
-use Rattle.std.specs.List.{AllByRecursion as All}
+use Rattle.std.specs.List.{AllByRecursion}
 use Rattle.std.proofs.ByRecursion.{All-weaker, sum_by_le}
 use Rattle.std.proofs.lemmas.Int.{ints}
 use Rattle.units.specs.declared.Price.{Price}
@@ -47,7 +47,7 @@ energy_small a f = omega (arith, (lawful a.volume.0 (minutes_of a)).bounded f.mi
 adds_small : (counts : Activation → Bool) (d : Direction) (a : Activation) → ActivationFits a → adds counts d a ≤ 50_000
 adds_small counts d a f = grind (arith, energy_small a f)
 
-total_small : (counts : Activation → Bool) (d : Direction) (xs : List Activation) → length xs ≤ most_activations → All ActivationFits xs → total_of counts d xs ≤ 25_600_000
+total_small : (counts : Activation → Bool) (d : Direction) (xs : List Activation) → length xs ≤ most_activations → AllByRecursion ActivationFits xs → total_of counts d xs ≤ 25_600_000
 total_small counts d xs few fit =
     omega (arith, sum_by_le (adds counts d) 50_000 xs (All-weaker ActivationFits (λ a. adds counts d a ≤ 50_000) (adds_small counts d) xs fit))
 

@@ -1,6 +1,6 @@
 -- How large an hour's figures may be, and what follows from them.
 use Rattle.std.specs.Prelude.{ℕ, ◌^◌, ◌≤◌, max, length, ℤ, pos, ◌≤ℤ◌}
-use Rattle.std.specs.List.{AllByRecursion as All}
+use Rattle.std.specs.List.{AllByRecursion}
 use Rattle.market.specs.declared.words.Activation.{Activation}
 use Rattle.market.specs.declared.words.Portfolio.{Portfolio}
 use Rattle.market.specs.Figures.{greatest_bid_volume, greatest_special_volume, price_limit, plan_limit, reading_limit, notice_limit, minutes_in_hour, most_parties, most_activations}
@@ -31,7 +31,7 @@ pub record HourFits (hour : Hour) : Type 0 where
   pub consumed : (p : ℕ) → FromZero reading_limit (hour.consumed p)
   pub notice : (p q : ℕ) → Near notice_limit (hour.notice p q)
   pub few : length hour.activations ≤ most_activations
-  pub activations : All ActivationFits hour.activations
+  pub activations : AllByRecursion ActivationFits hour.activations
 
 -- what is known of the prices that an hour is settled at
 pub record PricesFit (facts : Facts) (prices : Prices) : Type 0 where

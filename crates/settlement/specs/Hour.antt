@@ -1,6 +1,6 @@
 -- One hour of a day: what is known of it, and the imbalances that follow.
 use Rattle.std.specs.Prelude.{◌≡◌, ℕ, ◌+◌, ◌<◌, true, cond, List, ℤ, pos, ◌+ℤ◌, ◌-ℤ◌, neg_ℤ, ◌==◌, unsigned_abs}
-use Rattle.std.specs.List.{AllByRecursion as All}
+use Rattle.std.specs.List.{AllByRecursion}
 use Rattle.units.specs.declared.Position.{Position}
 use Rattle.market.specs.declared.words.Activation.{Activation}
 use Rattle.market.specs.declared.words.Direction.{Direction}
@@ -70,4 +70,4 @@ net_activated hour = pos (activated_energy hour Up) -ℤ pos (activated_energy h
 
 -- each activation of the hour is an entered party's
 abbrev pub OwnActivations : Hour → Type 0
-OwnActivations hour = All (λ a. of_hour hour.position a ≡ true → a.party.0 < hour.parties) hour.activations
+OwnActivations hour = AllByRecursion (λ a. of_hour hour.position a ≡ true → a.party.0 < hour.parties) hour.activations

@@ -1,6 +1,6 @@
 -- The three sums of one hour.
 use Rattle.std.specs.Prelude.{◌≡◌, ℕ, true, ℤ, pos, ◌+ℤ◌, ◌-ℤ◌, neg_ℤ, ◌≤ℤ◌}
-use Rattle.std.specs.List.{AllByRecursion as All}
+use Rattle.std.specs.List.{AllByRecursion}
 use Rattle.market.specs.declared.words.Direction.{Direction}
 use Rattle.market.specs.declared.words.Kind.TheVariants.{Listed}
 use Rattle.pricing.specs.declared.Facts.{Facts}
@@ -26,11 +26,11 @@ Balanced hour = metered_production hour +ℤ net_outside_purchases hour ≡ mete
 
 -- the hour has no special activation
 abbrev pub NoneSpecial : Hour → Type 0
-NoneSpecial hour = All (λ a. of_hour hour.position a ≡ true → a.kind ≡ Listed) hour.activations
+NoneSpecial hour = AllByRecursion (λ a. of_hour hour.position a ≡ true → a.kind ≡ Listed) hour.activations
 
 -- all listed activations of the hour go in that direction
 abbrev pub ListedOneWay : Direction → Hour → Type 0
-ListedOneWay direction hour = All (λ a. of_hour hour.position a ≡ true → a.kind ≡ Listed → a.direction ≡ direction) hour.activations
+ListedOneWay direction hour = AllByRecursion (λ a. of_hour hour.position a ≡ true → a.kind ≡ Listed → a.direction ≡ direction) hour.activations
 
 -- (c) a balanced hour regulated one way never costs the operator, but for what short activations gain
 abbrev pub NeverCosts : ℕ → Facts → Prices → Hour → Type 0

@@ -22,7 +22,7 @@ returns c =
       up_price = c.balancing_price.result;
       down_price = c.balancing_price-2.result;
       middle = c.standing_middle.result;
-      net_energy = c.net_energy_is.result;
+      net_energy = c.net_energy.result;
       rose = course.result.0;
       fell = course.result.1;
       went_up = c.went.result;
@@ -34,7 +34,7 @@ returns c =
       up_price_is = c.balancing_price.ensures.reading;
       down_price_is = c.balancing_price-2.ensures.reading;
       middle_price = c.standing_middle.ensures.reading;
-      net = c.net_energy_is.ensures;
+      net = c.net_energy.ensures;
       rises = λ short. (course.ensures.reading short).0;
       falls = λ short. (course.ensures.reading short).1;
       upward = c.went.ensures.reading;
@@ -42,7 +42,7 @@ returns c =
     } in
     let exact = λ (short : Few activations).
     together minutes spot hour activations ups downs _ _ _ _ _ _ _ c.balancing_price.ensures.value c.balancing_price-2.ensures.value
-    c.standing_middle.ensures.value (c.net_energy_is.ensures.exact short) (course.ensures.value short)
+    c.standing_middle.ensures.value (c.net_energy.ensures.exact short) (course.ensures.value short)
     c.went.ensures.value c.went-2.ensures.value in
     record {
       exact = exact;

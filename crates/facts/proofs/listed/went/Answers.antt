@@ -7,7 +7,7 @@ pub returns-then-is_listed : goal.returns-then-is_listed
 returns-then-is_listed c =
     let counts = listed_in c.args.hour c.args.direction in
     let activations = c.args.activations.now in
-    let reading = found counts activations c.loop-activation.activation-index c.loop-activation-test.true (sym c.is_listed_lem.ensures ∙ c.if-is_listed.true) in
+    let reading = found counts activations c.loop-activation.activation-index c.loop-activation-test.true (sym c.is_listed.ensures ∙ c.if-is_listed.true) in
     record { value = some_counts counts activations _ reading; reading = reading }
 
 pub returns : goal.returns

@@ -11,11 +11,11 @@ loop-activation-preserved c =
     let activations = c.args.activations.now in
     let n = c.loop-activation.activation-index in
     elim c.if-sets_price.branch [
-      | then-sets-price w ↦
+      | then-sets_price w ↦
           let test = sym c.sets_price.ensures ∙ w.if-sets_price.true in
           let more = takes direction counts activations n c.loop-activation.so_far w.further.result c.loop-activation.invariant test w.further.ensures in
           simp w.so_far-is more
-      | else-sets-price w ↦
+      | else-sets_price w ↦
           let test = sym c.sets_price.ensures ∙ w.if-sets_price.false in
           let more = keeps direction counts activations n c.loop-activation.so_far c.loop-activation.invariant test in
           simp w.so_far-is more

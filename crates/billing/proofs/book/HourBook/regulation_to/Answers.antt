@@ -29,11 +29,11 @@ loop-activation-preserved c =
     let paid = payment c.args.minutes c.args.facts.now a in
     let few : c.loop-activation.activation-index * 2 ^ 66 + 2 ^ 66 < 2 ^ 127 = omega (arith, c.loop-activation-test.true, c.as_slice-activation-items.ensures.bound) in
     elim c.if-is_of.branch [
-      | then-is-of w ↦
+      | then-is_of w ↦
           gathered_more _ _ no_activation k _ _ w.payment-total.result c.loop-activation.invariant c.loop-activation-test.true
           (w.payment-total.ensures.value ∙ sym (cond-true of paid (pos 0) (sym c.is_of.ensures ∙ w.if-is_of.true))) w.payment-total.ensures.bound
           (w.total_is ∙ (with_is (k * 2 ^ 66) _ _ (record { is = refl; near = c.loop-activation.invariant.near }) _ _ (record { is = refl; near = w.payment-total.ensures.bound }) few).is)
-      | else-is-of w ↦
+      | else-is_of w ↦
           gathered_more _ _ no_activation k _ _ (pos 0) c.loop-activation.invariant c.loop-activation-test.true
           (sym (cond-false of paid (pos 0) (sym c.is_of.ensures ∙ w.if-is_of.false))) (near_zero (2 ^ 66)) (w.total_is ∙ sym (+ℤ_idr _))
     ]

@@ -19,7 +19,7 @@ invariant_of-self-2 c =
     let found = c.in-Some-take_first.ensures in
     let none =
     sym (c.in_default.ensures ∙ ap (λ x. activate_row t c.args.hour.0 first last x c.is_some-found.result) c.has_room-room.ensures
-    ∙ ap (activate_row t c.args.hour.0 first last _) (c.is_some-found.ensures ∙ ap is_some c.is_first_free.ensures.value)) in (
+    ∙ ap (activate_row t c.args.hour.0 first last _) (c.is_some-found.ensures ∙ ap is_some c.first_free.ensures.value)) in (
       activated_sound b.timetable b.positions b.notices b.ladder b.register b.sound c.take_first.new.self c.enter.new.self c.args.hour c.args.direction first last bid (pos (energy_of (listed_of bid c.args.hour first last))) c.enter.result none
           found.value found.side found.after refl
           (subst (λ a. Outcome (register_row (registered b.register)) c.enter.result (registered c.enter.new.self ≡ registered b.register) (λ _. registered c.enter.new.self ≡ with_activation a (registered b.register))) c.listed-activation.ensures c.enter.ensures),
@@ -36,7 +36,7 @@ returns c stage settled =
     let found = c.in-Some-take_first.ensures in
     let none =
     sym (c.in_default.ensures ∙ ap (λ x. activate_row t c.args.hour.0 first last x c.is_some-found.result) c.has_room-room.ensures
-    ∙ ap (activate_row t c.args.hour.0 first last _) (c.is_some-found.ensures ∙ ap is_some c.is_first_free.ensures.value)) in
+    ∙ ap (activate_row t c.args.hour.0 first last _) (c.is_some-found.ensures ∙ ap is_some c.first_free.ensures.value)) in
     activated stage settled b.timetable b.positions b.notices b.ladder c.take_first.new.self b.register c.enter.new.self c.args.hour c.args.direction first last bid c.energy.result.0 c.enter.result none
     found.value found.side found.after (c.energy.ensures.value ∙ ap (λ a. pos (energy_of a)) c.listed-activation.ensures)
     (subst (λ a. Outcome (register_row (registered b.register)) c.enter.result (registered c.enter.new.self ≡ registered b.register) (λ _. registered c.enter.new.self ≡ with_activation a (registered b.register))) c.listed-activation.ensures c.enter.ensures)

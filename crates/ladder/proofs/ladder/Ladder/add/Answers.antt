@@ -19,7 +19,7 @@ invariant_of-self c =
     let p = put_new Up (space_of l.up) b xs us (is_ok c.put.result) l.upward (sym (ap (same_direction Up) (sym up))) room (c.put.ensures.test l.upward.0, c.put.ensures.items l.upward.0) in
     let size : length us ≤ length xs + 1 = p.size in
     let more : More b xs ys us ys = λ r. let f = p.counts r in omega arith in
-    (p.side, (l.downward, ((c.put.ensures.space ∙ l.space.0, l.space.1), ((omega arith, omega arith), (once_more l.given b xs ys us ys number more l.once l.fresh, (fresh_more l.given b xs ys us ys number more l.fresh, tt))))))
+    record { upward = p.side; downward = l.downward; space = (c.put.ensures.space ∙ l.space.0, l.space.1); room = (omega arith, omega arith); once = once_more l.given b xs ys us ys number more l.once l.fresh; fresh = fresh_more l.given b xs ys us ys number more l.fresh }
 
 pub invariant_of-self-in-Down : goal.invariant_of-self-in-Down
 invariant_of-self-in-Down c =
@@ -35,4 +35,4 @@ invariant_of-self-in-Down c =
     let p = put_new Down (space_of l.down) b ys vs (is_ok c.put-in-Down.result) l.downward (sym (ap (same_direction Down) (sym down))) room (c.put-in-Down.ensures.test l.downward.0, c.put-in-Down.ensures.items l.downward.0) in
     let size : length vs ≤ length ys + 1 = p.size in
     let more : More b xs ys xs vs = λ r. let f = p.counts r in omega arith in
-    (l.upward, (p.side, ((l.space.0, c.put-in-Down.ensures.space ∙ l.space.1), ((omega arith, omega arith), (once_more l.given b xs ys xs vs number more l.once l.fresh, (fresh_more l.given b xs ys xs vs number more l.fresh, tt))))))
+    record { upward = l.upward; downward = p.side; space = (l.space.0, c.put-in-Down.ensures.space ∙ l.space.1); room = (omega arith, omega arith); once = once_more l.given b xs ys xs vs number more l.once l.fresh; fresh = fresh_more l.given b xs ys xs vs number more l.fresh }

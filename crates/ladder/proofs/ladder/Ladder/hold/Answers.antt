@@ -43,7 +43,7 @@ invariant_of-self c =
     let p = put_up c in
     let size : length us ≡ length xs = p.size in
     let fewer : Fewer xs ys us ys = λ r. let f = p.counts r in omega arith in
-    (p.side, (l.downward, ((c.put.ensures.space ∙ l.space.0, l.space.1), ((omega (arith, l.room.0), l.room.1), (once_fewer xs ys us ys fewer l.once, (fresh_fewer l.given xs ys us ys fewer l.fresh, tt))))))
+    record { upward = p.side; downward = l.downward; space = (c.put.ensures.space ∙ l.space.0, l.space.1); room = (omega (arith, l.room.0), l.room.1); once = once_fewer xs ys us ys fewer l.once; fresh = fresh_fewer l.given xs ys us ys fewer l.fresh }
 
 pub invariant_of-self-in-Down : goal.invariant_of-self-in-Down
 invariant_of-self-in-Down c =
@@ -54,7 +54,7 @@ invariant_of-self-in-Down c =
     let p = put-down c in
     let size : length vs ≡ length ys = p.size in
     let fewer : Fewer xs ys xs vs = λ r. let f = p.counts r in omega arith in
-    (l.upward, (p.side, ((l.space.0, c.put-in-Down.ensures.space ∙ l.space.1), ((omega (arith, l.room.0), l.room.1), (once_fewer xs ys xs vs fewer l.once, (fresh_fewer l.given xs ys xs vs fewer l.fresh, tt))))))
+    record { upward = l.upward; downward = p.side; space = (l.space.0, c.put-in-Down.ensures.space ∙ l.space.1); room = (omega (arith, l.room.0), l.room.1); once = once_fewer xs ys xs vs fewer l.once; fresh = fresh_fewer l.given xs ys xs vs fewer l.fresh }
 
 pub returns-in-Up : goal.returns-in-Up
 returns-in-Up c =

@@ -18,7 +18,7 @@ invariant_of-self c =
     let e = c.take.ensures.items in
     let shorter : length us ≤ length xs = length_removed xs us k e in
     let fewer : Fewer xs ys us ys = λ r. let f = count_removed r xs us k e in omega arith in
-    (side_removed Up xs us k e l.upward, (l.downward, ((c.take.ensures.space ∙ l.space.0, l.space.1), ((omega (arith, l.room.0), l.room.1), (once_fewer xs ys us ys fewer l.once, (fresh_fewer l.given xs ys us ys fewer l.fresh, tt))))))
+    record { upward = side_removed Up xs us k e l.upward; downward = l.downward; space = (c.take.ensures.space ∙ l.space.0, l.space.1); room = (omega (arith, l.room.0), l.room.1); once = once_fewer xs ys us ys fewer l.once; fresh = fresh_fewer l.given xs ys us ys fewer l.fresh }
 
 pub invariant_of-self-in-Down : goal.invariant_of-self-in-Down
 invariant_of-self-in-Down c =
@@ -30,7 +30,7 @@ invariant_of-self-in-Down c =
     let e = c.take-in-Down.ensures.items in
     let shorter : length vs ≤ length ys = length_removed ys vs k e in
     let fewer : Fewer xs ys xs vs = λ r. let f = count_removed r ys vs k e in omega arith in
-    (l.upward, (side_removed Down ys vs k e l.downward, ((l.space.0, c.take-in-Down.ensures.space ∙ l.space.1), ((omega (arith, l.room.0), l.room.1), (once_fewer xs ys xs vs fewer l.once, (fresh_fewer l.given xs ys xs vs fewer l.fresh, tt))))))
+    record { upward = l.upward; downward = side_removed Down ys vs k e l.downward; space = (l.space.0, c.take-in-Down.ensures.space ∙ l.space.1); room = (omega (arith, l.room.0), l.room.1); once = once_fewer xs ys xs vs fewer l.once; fresh = fresh_fewer l.given xs ys xs vs fewer l.fresh }
 
 pub returns-in-Up : goal.returns-in-Up
 returns-in-Up c =

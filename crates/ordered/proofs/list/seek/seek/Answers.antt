@@ -1,5 +1,5 @@
 use Rattle.std.proofs.Common.{◌≡◌, ℕ, ◌+◌, ◌-◌, ◌/◌, ◌<◌, ◌≤◌, true, length, drop, subst, arith}
-use Rattle.std.specs.List.{AllByRecursion as All}
+use Rattle.std.specs.List.{AllByRecursion}
 use Rattle.ordered.proofs.Rising.{none_left_out, past, short}
 use Rattle.ordered.proofs.list.seek.seek.Goals as goal
 
@@ -43,4 +43,4 @@ returns g c =
     let l : low ≤ high = inv.0 in
     let u : high ≤ length xs = inv.1 in
     let e : high ≡ low = omega arith in
-    (omega arith, λ h. ((inv.2 h).0, subst (λ k. All (λ y. g.T.Ranked.before c.args.like.now y ≡ true) (drop k xs)) e (inv.2 h).1))
+    (omega arith, λ h. ((inv.2 h).0, subst (λ k. AllByRecursion (λ y. g.T.Ranked.before c.args.like.now y ≡ true) (drop k xs)) e (inv.2 h).1))

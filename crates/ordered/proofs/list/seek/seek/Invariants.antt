@@ -1,5 +1,5 @@
 use Rattle.std.proofs.Common.{◌≡◌, ◌-◌, ◌≤◌, true, length, take, drop}
-use Rattle.std.specs.List.{AllByRecursion as All}
+use Rattle.std.specs.List.{AllByRecursion}
 use Rattle.ordered.specs.Order.{rises}
 use Rattle.ordered.proofs.list.seek.seek.Given as goal
 
@@ -7,7 +7,7 @@ use Rattle.ordered.proofs.list.seek.seek.Given as goal
 abbrev pub invariant-loop-low : goal.invariant-loop-low
 invariant-loop-low g l =
     let before = g.T.Ranked.before in
-    (l.low ≤ l.high) × (l.high ≤ length l.records) × (rises before l.records ≡ true → All (λ y. before y l.like ≡ true) (take l.low l.records) × All (λ y. before l.like y ≡ true) (drop l.high l.records))
+    (l.low ≤ l.high) × (l.high ≤ length l.records) × (rises before l.records ≡ true → AllByRecursion (λ y. before y l.like ≡ true) (take l.low l.records) × AllByRecursion (λ y. before l.like y ≡ true) (drop l.high l.records))
 
 abbrev pub decreases-loop-low : goal.decreases-loop-low
 decreases-loop-low g l = l.high - l.low
