@@ -19,8 +19,8 @@ returns c =
       value =
           product.is
           ∙ elim c.if-imbalance-lt0.branch [
-            | then-imbalance-lt0 w ↦ priced_is c.args.pair x _ (short_price c.args.pair x _ (side ∙ w.if-imbalance-lt0.true) (ap (λ p. p.0) w.price_is))
-            | else-imbalance-lt0 w ↦ priced_is c.args.pair x _ (surplus_price c.args.pair x _ (side ∙ w.if-imbalance-lt0.false) (ap (λ p. p.0) w.price_is))
+            | then-imbalance-lt0 w ↦ priced_is c.args.pair x _ (short_price c.args.pair x _ (side ∙ w.if-imbalance-lt0.true) (ap (λ p. p.0) w.price-is))
+            | else-imbalance-lt0 w ↦ priced_is c.args.pair x _ (surplus_price c.args.pair x _ (side ∙ w.if-imbalance-lt0.false) (ap (λ p. p.0) w.price-is))
           ];
       bound = reads_near _ _ _ product;
     }

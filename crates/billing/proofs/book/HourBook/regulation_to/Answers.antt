@@ -32,10 +32,10 @@ loop-activation-preserved c =
       | then-is_of w ↦
           gathered_more _ _ no_activation k _ _ w.payment-total.result c.loop-activation.invariant c.loop-activation-test.true
           (w.payment-total.ensures.value ∙ sym (cond-true of paid (pos 0) (sym c.is_of.ensures ∙ w.if-is_of.true))) w.payment-total.ensures.bound
-          (w.total_is ∙ (with_is (k * 2 ^ 66) _ _ (record { is = refl; near = c.loop-activation.invariant.near }) _ _ (record { is = refl; near = w.payment-total.ensures.bound }) few).is)
+          (w.total-is ∙ (with_is (k * 2 ^ 66) _ _ (record { is = refl; near = c.loop-activation.invariant.near }) _ _ (record { is = refl; near = w.payment-total.ensures.bound }) few).is)
       | else-is_of w ↦
           gathered_more _ _ no_activation k _ _ (pos 0) c.loop-activation.invariant c.loop-activation-test.true
-          (sym (cond-false of paid (pos 0) (sym c.is_of.ensures ∙ w.if-is_of.false))) (near_zero (2 ^ 66)) (w.total_is ∙ sym (+ℤ_idr _))
+          (sym (cond-false of paid (pos 0) (sym c.is_of.ensures ∙ w.if-is_of.false))) (near_zero (2 ^ 66)) (w.total-is ∙ sym (+ℤ_idr _))
     ]
 
 pub returns : goal.returns

@@ -8,5 +8,5 @@ pub returns-in-Some : goal.returns-in-Some
 returns-in-Some c =
     let t = c.args.self.now in
     let at = found _ _ _ c.in-Some.ensures in
-    let was : c.index-mut.result.now ≡ records_of t c.args.hour.0 c.args.party.0 = record_read t c.args.hour.0 c.args.party.0 c.in-Some.place c.index-mut.result.now at.0 at.1 c.index-mut.ensures.value in
+    let was : c.index_mut.result.now ≡ records_of t c.args.hour.0 c.args.party.0 = record_read t c.args.hour.0 c.args.party.0 c.in-Some.place c.index_mut.result.now at.0 at.1 c.index_mut.ensures.value in
     was_read t _ c.args.hour.0 c.args.party.0 c.in-Some.place _ at.0 at.1 refl c.args.meter c.args.energy (c.read.ensures ∙ ap (with_reading c.args.meter c.args.energy) was)

@@ -7,9 +7,9 @@ invariant_of-result c =
     let row = sym c.opening_refusal.ensures ∙ is_none c.opening_refusal.result c.if-is_some.ensures in
     let date = c.args.date in
     let xs = c.args.prices.now in
-    let ps = vec_items c.in-ok-spot.spot in
+    let ps = vec_items c.in_ok-spot.spot in
     let start = c.in-Ok.start in
-    let are = c.in-ok-spot.ensures in
+    let are = c.in_ok-spot.ensures in
     let starts = c.in-Ok.ensures.value in (
       whole_day date xs ps start row are starts,
       (prices_within date xs ps start row are starts, (start_spanned date xs ps start row are starts, (clock_spanned date xs ps start row are starts, (zero-le, tt)))),
@@ -18,4 +18,4 @@ invariant_of-result c =
 pub returns : goal.returns
 returns c =
     let row = sym c.opening_refusal.ensures ∙ is_none c.opening_refusal.result c.if-is_some.ensures in
-    opened_times_lem c.args.date c.args.prices.now (vec_items c.in-ok-spot.spot) c.in-Ok.start row c.in-ok-spot.ensures c.in-Ok.ensures.value
+    opened_times_lem c.args.date c.args.prices.now (vec_items c.in_ok-spot.spot) c.in-Ok.start row c.in_ok-spot.ensures c.in-Ok.ensures.value

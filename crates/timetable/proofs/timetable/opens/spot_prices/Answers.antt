@@ -8,7 +8,7 @@ loop-price-preserved c =
     let xs = c.args.prices.now in
     let i = c.loop-price.price-index in
     let fits : SFits w32 (get_or xs i (pos 0)) = search rules in
-    spot_more xs i (omega arith) _ (vec_items c.loop-price.spot) (vec_items c.push.new.self) (to_z-of_z w32 (get_or xs i (pos 0)) fits) c.loop-price.invariant c.in-ok-push.ensures.items
+    spot_more xs i (omega arith) _ (vec_items c.loop-price.spot) (vec_items c.push.new.self) (to_z-of_z w32 (get_or xs i (pos 0)) fits) c.loop-price.invariant c.in_ok-push.ensures.items
 
 pub returns : goal.returns
 returns c = spot_all c.args.prices.now c.loop-price.price-index (vec_items c.loop-price.spot) c.loop-price-test.false c.loop-price.invariant
