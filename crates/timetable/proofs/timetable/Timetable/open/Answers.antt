@@ -10,10 +10,14 @@ invariant_of-result c =
     let ps = vec_items c.in_ok-spot.spot in
     let start = c.in-Ok.start in
     let are = c.in_ok-spot.ensures in
-    let starts = c.in-Ok.ensures.value in (
-      whole_day date xs ps start row are starts,
-      (prices_within date xs ps start row are starts, (start_spanned date xs ps start row are starts, (clock_spanned date xs ps start row are starts, (zero-le, tt)))),
-    )
+    let starts = c.in-Ok.ensures.value in
+    record {
+      hours = whole_day date xs ps start row are starts;
+      prices = prices_within date xs ps start row are starts;
+      started = start_spanned date xs ps start row are starts;
+      reached = clock_spanned date xs ps start row are starts;
+      entered = zero-le;
+    }
 
 pub returns : goal.returns
 returns c =
