@@ -4,3 +4,4 @@ pub mod Sounds
 pub mod Opened
 pub mod Asked
 pub mod Bills
+pub mod Places

@@ -19,12 +19,12 @@ invariant_of-self-2 c =
     let found = c.in-Some-take_first.ensures in
     let none =
     sym (c.in_default.ensures ∙ ap (λ x. activate_row t c.args.hour.0 first last x c.is_some-found.result) c.has_room-room.ensures
-    ∙ ap (activate_row t c.args.hour.0 first last _) (c.is_some-found.ensures ∙ ap is_some c.first_free.ensures.value)) in (
-      activated_sound b.timetable b.positions b.notices b.ladder b.register b.sound c.take_first.new.self c.enter.new.self c.args.hour c.args.direction first last bid (pos (energy_of (listed_of bid c.args.hour first last))) c.enter.result none
+    ∙ ap (activate_row t c.args.hour.0 first last _) (c.is_some-found.ensures ∙ ap is_some c.first_free.ensures.value)) in
+    record {
+      sound = activated_sound b.timetable b.positions b.notices b.ladder b.register b.sound c.take_first.new.self c.enter.new.self c.args.hour c.args.direction first last bid (pos (energy_of (listed_of bid c.args.hour first last))) c.enter.result none
           found.value found.side found.after refl
-          (subst (λ a. Outcome (register_row (registered b.register)) c.enter.result (registered c.enter.new.self ≡ registered b.register) (λ _. registered c.enter.new.self ≡ with_activation a (registered b.register))) c.listed-activation.ensures c.enter.ensures),
-      tt,
-    )
+          (subst (λ a. Outcome (register_row (registered b.register)) c.enter.result (registered c.enter.new.self ≡ registered b.register) (λ _. registered c.enter.new.self ≡ with_activation a (registered b.register))) c.listed-activation.ensures c.enter.ensures);
+    }
 
 pub returns : goal.returns
 returns c stage settled =

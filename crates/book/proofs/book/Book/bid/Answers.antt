@@ -8,4 +8,4 @@ pub invariant_of-self : goal.invariant_of-self
 invariant_of-self c =
     let b = c.args.self.now in
     let none = sym (c.in_default.ensures ∙ ap (bid_row (times b.timetable) c.args.offer) c.has_room_for_a_bid-room.ensures) in
-    (bidden_sound b.timetable b.positions b.notices b.ladder b.register b.sound c.add.new.self c.args.offer c.add.result none c.add.ensures.value c.add.ensures.after, tt)
+    record { sound = bidden_sound b.timetable b.positions b.notices b.ladder b.register b.sound c.add.new.self c.args.offer c.add.result none c.add.ensures.value c.add.ensures.after }

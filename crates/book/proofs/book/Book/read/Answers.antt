@@ -11,11 +11,11 @@ invariant_of-self c =
     let b = c.args.self.now in
     let t = times b.timetable in
     let none = sym c.in_default.ensures in
-    let unsettled = (reading_accepted t c.args.hour.0 c.args.party.0 c.args.energy.0 c.args.settled none).unsettled in (
-      metered_sound b.timetable b.positions b.notices b.ladder b.register b.sound c.set_reading.new.self c.args.meter c.args.hour.0 c.args.party.0 c.args.energy.0
-          (ap (reading_row t c.args.hour.0 c.args.party.0 c.args.energy.0) (sym unsettled) ∙ none) c.set_reading.ensures,
-      tt,
-    )
+    let unsettled = (reading_accepted t c.args.hour.0 c.args.party.0 c.args.energy.0 c.args.settled none).unsettled in
+    record {
+      sound = metered_sound b.timetable b.positions b.notices b.ladder b.register b.sound c.set_reading.new.self c.args.meter c.args.hour.0 c.args.party.0 c.args.energy.0
+          (ap (reading_row t c.args.hour.0 c.args.party.0 c.args.energy.0) (sym unsettled) ∙ none) c.set_reading.ensures;
+    }
 
 pub returns : goal.returns
 returns c stage prices is =

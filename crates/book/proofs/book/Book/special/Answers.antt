@@ -15,11 +15,11 @@ invariant_of-self c =
     let b = c.args.self.now in
     let t = times b.timetable in
     let is = c.special-activation.ensures in
-    let none = sym (c.in_default.ensures ∙ ap (special_row t c.special-activation.result) c.has_room-room.ensures ∙ ap (λ a. special_row t a (ltb (length (registered b.register)) most_activations)) is) in (
-      specially_sound b.timetable b.positions b.notices b.ladder b.register b.sound c.enter.new.self (special_of c.args.offer c.args.first_minute c.args.last_minute) c.enter.result none refl
-          (subst (λ a. Outcome (register_row (registered b.register)) c.enter.result (registered c.enter.new.self ≡ registered b.register) (λ _. registered c.enter.new.self ≡ with_activation a (registered b.register))) is c.enter.ensures),
-      tt,
-    )
+    let none = sym (c.in_default.ensures ∙ ap (special_row t c.special-activation.result) c.has_room-room.ensures ∙ ap (λ a. special_row t a (ltb (length (registered b.register)) most_activations)) is) in
+    record {
+      sound = specially_sound b.timetable b.positions b.notices b.ladder b.register b.sound c.enter.new.self (special_of c.args.offer c.args.first_minute c.args.last_minute) c.enter.result none refl
+          (subst (λ a. Outcome (register_row (registered b.register)) c.enter.result (registered c.enter.new.self ≡ registered b.register) (λ _. registered c.enter.new.self ≡ with_activation a (registered b.register))) is c.enter.ensures);
+    }
 
 pub returns : goal.returns
 returns c stage settled =
