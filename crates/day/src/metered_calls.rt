@@ -28,7 +28,7 @@ impl MeteredDay {
 
     // Settles an hour under a policy, once: each surplus and shortfall is priced alone, and the operator has the counter-entry.
     pub fn settle<P: Policy>(&mut self, hour: Position, policy: &P) -> Result<(), Refusal>
-        ensures { Made (settle_refused (metered self.old) hour.0) (λ _. Settled hour.0 (meaning policy.now)) result (metered self.old) (metered self.new) }
+        ensures { Made (settle_refused (metered self.old) hour.0) (λ _. Settled hour.0 (P.meaning policy.now)) result (metered self.old) (metered self.new) }
     {
         let settled = self.accounts.prices_of(hour).is_some();
         let complete = self.book.is_complete(hour);

@@ -16,11 +16,11 @@ invariant_of-self c =
     let d = c.read.new.self in
     let row = reading_refused (metered_of b a) c.args.hour.0 c.args.party.0 c.args.energy.0 in
     let entry = Reading c.args.hour.0 c.args.party.0 c.args.meter c.args.energy.0 in
-    let is = sym (c.is_some-settled.ensures ∙ ap is_some c.prices_of.ensures) in (
-      read_reckoned b d a row c.read.result c.args.hour.0 c.args.party.0 c.args.meter c.args.energy.0
-          (staged {X = Unit} row (λ _. entry) c.read.result (metered_of b a) (metered_of d a) (λ _. refl) (c.read.ensures Metered (settled_of a) is)) day.reckoned,
-      tt,
-    )
+    let is = sym (c.is_some-settled.ensures ∙ ap is_some c.prices_of.ensures) in
+    record {
+      reckoned = read_reckoned b d a row c.read.result c.args.hour.0 c.args.party.0 c.args.meter c.args.energy.0
+          (staged {X = Unit} row (λ _. entry) c.read.result (metered_of b a) (metered_of d a) (λ _. refl) (c.read.ensures Metered (settled_of a) is)) day.reckoned;
+    }
 
 pub returns : goal.returns
 returns c =

@@ -40,11 +40,11 @@ invariant_of-self g c =
     ∙ ap (λ x. settle_row t h x c.is_complete-complete.result) (c.is_some-settled.ensures ∙ ap is_some c.prices_of.ensures)
     ∙ ap (settle_row t h (is_settled (metered_of b a) h)) (c.is_complete-complete.ensures Metered (settled_of a)) in
     let m = g.P.Policy.meaning c.args.policy.now in
-    let none = sym row ∙ c.in_default.is in (
-      settled_reckoned b a c.bill.new.accounts c.settle.new.self h c.facts-facts.result c.prices-prices.result m (g.met.P.Policy.rules c.args.policy.now) none (c.facts-facts.ensures Metered (settled_of a)) c.prices-prices.ensures
-          c.bill.ensures.settled c.settle.ensures (λ known roomy. c.bill.ensures.billed known roomy Metered (settled_of a)) day.reckoned,
-      tt,
-    )
+    let none = sym row ∙ c.in_default.is in
+    record {
+      reckoned = settled_reckoned b a c.bill.new.accounts c.settle.new.self h c.facts-facts.result c.prices-prices.result m (g.met.P.Policy.rules c.args.policy.now) none (c.facts-facts.ensures Metered (settled_of a)) c.prices-prices.ensures
+          c.bill.ensures.settled c.settle.ensures (λ known roomy. c.bill.ensures.billed known roomy Metered (settled_of a)) day.reckoned;
+    }
 
 pub returns : goal.returns
 returns g c =

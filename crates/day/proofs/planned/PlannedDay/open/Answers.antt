@@ -2,4 +2,4 @@ use Rattle.book.proofs.Opened.{lawful_opening}
 use Rattle.day.proofs.planned.PlannedDay.open.Goals as goal
 
 pub returns : goal.returns
-returns c = record { value = c.in-ok-book.ensures; lawful = lawful_opening c.in-ok-book.book.timetable }
+returns c = record { value = c.in_ok-book.ensures; lawful = lawful_opening c.in_ok-book.book.timetable }

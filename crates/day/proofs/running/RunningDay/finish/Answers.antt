@@ -2,4 +2,4 @@ use Rattle.day.proofs.Reckoning.{finished}
 use Rattle.day.proofs.running.RunningDay.finish.Goals as goal
 
 pub invariant_of-result : goal.invariant_of-result
-invariant_of-result c = (finished c.args.self.book c.new.result c.new.ensures, tt)
+invariant_of-result c = record { reckoned = finished c.args.self.book c.new.result c.new.ensures }
