@@ -19,7 +19,7 @@ pub(crate) fn make_metered<P: Policy>(
     day: &mut MeteredDay,
     call: &MeteredCall<P>,
 ) -> Result<Answer, Refusal>
-    ensures { Made (metered_row (metered day.old) call.now) (metered_entry meaning call.now) result (metered day.old) (metered day.new) }
+    ensures { Made (metered_row (metered day.old) call.now) (metered_entry P.meaning call.now) result (metered day.old) (metered day.new) }
 {
     match call {
         MeteredCall::Read(hour, party, meter, energy) => done(day.read(
@@ -36,7 +36,7 @@ pub(crate) fn run_metered<P: Policy>(
     calls: &[MeteredCall<P>],
 ) -> Result<Vec<Result<Answer, Refusal>>, AllocError>
     ensures all { IfOk result (λ answers. length answers.items ≡ length calls.now) }
-    ensures ran { IfOk result (λ answers. (opening : Opening) (before : Journal) → metered day.old ≡ figures opening before → LawfulJournal opening before → Ran metered_row (metered_entry meaning) opening calls.now answers.items before (metered day.new)) }
+    ensures ran { IfOk result (λ answers. (opening : Opening) (before : Journal) → metered day.old ≡ figures opening before → LawfulJournal opening before → Ran metered_row (metered_entry P.meaning) opening calls.now answers.items before (metered day.new)) }
 {
     let mut answers = Vec::with_capacity(heap, calls.len())?;
     for call in calls {

@@ -22,7 +22,7 @@ pub fn replay<P: Policy>(
     running: &[RunningCall],
     metered: &[MeteredCall<P>],
 ) -> Result<Replay, AllocError>
-    ensures { IfOk result (Law meaning date prices.now planned.now running.now metered.now) }
+    ensures { IfOk result (Law P.meaning date prices.now planned.now running.now metered.now) }
 {
     let mut day = PlannedDay::open(heap, date, prices)?;
     let planned_answers = run_planned(heap, &mut day, planned)?;

@@ -9,7 +9,7 @@ use Rattle.replay.proofs.planning.run_planned.Goals as goal
 
 pub loop-call-init : goal.loop-call-init
 loop-call-init c =
-    let empty : vec_items c.in-ok-answers.answers ≡ [] = c.in-ok-answers.ensures.items in (
+    let empty : vec_items c.in_ok-answers.answers ≡ [] = c.in_ok-answers.ensures.items in (
       ap length empty,
       λ opening before is lawful.
           subst (λ answers. Ran planned_row planned_entry opening c.args.calls.now answers before (planned c.args.day.now)) (sym empty)
@@ -18,7 +18,7 @@ loop-call-init c =
 
 pub loop-call-preserved : goal.loop-call-preserved
 loop-call-preserved c =
-    let items = c.in-ok-push.ensures.items in
+    let items = c.in_ok-push.ensures.items in
     let k = c.loop-call.call-index in
     let answers = vec_items c.loop-call.answers in
     let longer : length (vec_items c.push.new.self) ≡ k + 1 = let n = length_push answers c.make_planned.result in let l = ap length items in omega (arith, n, l, c.loop-call.invariant.0) in (

@@ -16,14 +16,14 @@ returns g c =
     let run : Replay =
     record {
       day = c.run_metered.new.day;
-      planned = c.in-ok-planned_answers.planned_answers;
-      running = c.in-ok-running_answers.running_answers;
-      metered = c.in-ok-metered_answers.metered_answers;
+      planned = c.in_ok-planned_answers.planned_answers;
+      running = c.in_ok-running_answers.running_answers;
+      metered = c.in_ok-metered_answers.metered_answers;
     } in
-    let opening = c.in-ok-day.ensures in
-    let one = c.in-ok-planned_answers.ensures.ran o [] opening.value (just_opened o (planned c.in-ok-day.day) opening.value opening.lawful) in
+    let opening = c.in_ok-day.ensures in
+    let one = c.in_ok-planned_answers.ensures.ran o [] opening.value (just_opened o (planned c.in_ok-day.day) opening.value opening.lawful) in
     let start = c.start-day.ensures in
-    let two = c.in-ok-running_answers.ensures.ran o (Start ∷ planned_journal first run) (start.1 ∙ ap (after Start) one.reckoned) (one.lawful, subst (Lawful Start) one.reckoned start.0) in
+    let two = c.in_ok-running_answers.ensures.ran o (Start ∷ planned_journal first run) (start.1 ∙ ap (after Start) one.reckoned) (one.lawful, subst (Lawful Start) one.reckoned start.0) in
     let finish = c.finish-day.ensures in
-    let three = c.in-ok-metered_answers.ensures.ran o (Finish ∷ running_journal first second run) (finish.1 ∙ ap (after Finish) two.reckoned) (two.lawful, subst (Lawful Finish) two.reckoned finish.0) in
-    whole g.P.Policy.meaning c.args.date prices first second c.args.metered.now run _ _ c.in-ok-planned_answers.ensures.all c.in-ok-running_answers.ensures.all c.in-ok-metered_answers.ensures.all one two three
+    let three = c.in_ok-metered_answers.ensures.ran o (Finish ∷ running_journal first second run) (finish.1 ∙ ap (after Finish) two.reckoned) (two.lawful, subst (Lawful Finish) two.reckoned finish.0) in
+    whole g.P.Policy.meaning c.args.date prices first second c.args.metered.now run _ _ c.in_ok-planned_answers.ensures.all c.in_ok-running_answers.ensures.all c.in_ok-metered_answers.ensures.all one two three
