@@ -5,6 +5,7 @@ use anyhow::anyhow;
 use calendar::{Date, Mark};
 use date_text::parse_date;
 use std::env;
+use std::process::ExitCode;
 use units::Position;
 
 fn letter(mark: Mark) -> &'static str {
@@ -57,12 +58,12 @@ fn run(rt: &HostRuntime) -> anyhow::Result<()> {
     print_day(rt, date)
 }
 
-fn main(rt: HostRuntime) -> anyhow::Result<()> {
+fn main(rt: HostRuntime) -> anyhow::Result<ExitCode> {
     match run(&rt) {
-        Ok(()) => Ok(()),
+        Ok(()) => Ok(ExitCode::SUCCESS),
         Err(error) => {
             eprintln!(rt; "hours: {error}")?;
-            Err(error)
+            Ok(ExitCode::FAILURE)
         }
     }
 }

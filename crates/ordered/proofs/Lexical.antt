@@ -135,14 +135,14 @@ Compares o xs ys = ByAnswer o (lex_before xs ys ≡ true) (lex_same xs ys ≡ tr
 abbrev pub ComparesZ : Ordering → ℤ → ℤ → Type 0
 ComparesZ o x y = ByAnswer o (x <ℤ y) (x ≡ y) (y <ℤ x)
 
-of_unsigned : (o : Ordering) (m n : ℕ) → ByAnswer o (m < n) (m ≡ n) (n < m) → ComparesZ o (pos m) (pos n)
-of_unsigned Less m n h = omega (arith, ints)
-of_unsigned Equal m n h = ap pos h
-of_unsigned Greater m n h = omega (arith, ints)
+pub unsigned : (o : Ordering) (m n : ℕ) → ByAnswer o (m < n) (m ≡ n) (n < m) → ComparesZ o (pos m) (pos n)
+unsigned Less m n h = omega (arith, ints)
+unsigned Equal m n h = ap pos h
+unsigned Greater m n h = omega (arith, ints)
 
 -- as `cmp` answers of unsigned numbers
-pub unsigned : (o : Ordering) (m n : ℕ) → o ≡ nat_cmp m n → ComparesZ o (pos m) (pos n)
-unsigned o m n e = of_unsigned o m n (ranked m n o e)
+pub of_cmp : (o : Ordering) (m n : ℕ) → o ≡ nat_cmp m n → ComparesZ o (pos m) (pos n)
+of_cmp o m n e = unsigned o m n (ranked m n o e)
 
 then_rest : (o q : Ordering) (x y : ℤ) (xs ys : List ℤ) → ComparesZ o x y → Compares q xs ys → Compares (ordering_then o q) (x ∷ xs) (y ∷ ys)
 unfolding lex_same
