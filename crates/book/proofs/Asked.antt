@@ -1,5 +1,5 @@
 -- What a book answers, from what the parts of it promise.
-use Rattle.std.proofs.Common.{◌≡◌, ℕ, ◌^◌, ◌<◌, ◌≤◌, cond, List, length, ℤ, pos, Some, None, Option, unwrap_or, sym, refl, ap, ◌∙◌, subst, arith}
+use Rattle.std.proofs.Common.{◌≡◌, ℕ, ◌^◌, ◌≤◌, List, length, ℤ, pos, Option, unwrap_or, ap, ◌∙◌, arith}
 use mathlib.Core.Logic.{∥∥₁_elim}
 use lib.IntN.{ℤ_set}
 use Rattle.std.proofs.lemmas.Int.{ints}
@@ -26,14 +26,14 @@ use Rattle.pricing.specs.declared.Prices.{Prices}
 use Rattle.facts.specs.Facts.{facts_of}
 use Rattle.integers.specs.Near.{Near}
 use Rattle.settlement.specs.Bounds.{HourFits, PricesFit}
-use Rattle.settlement.specs.Hour.{Hour, imbalance}
+use Rattle.settlement.specs.Hour.{imbalance}
 use Rattle.settlement.specs.Payments.{due_to}
 use Rattle.settlement.proofs.Bounds.{imbalance_near}
 use Rattle.billing.specs.declared.book.Metered.{Metered}
-use Rattle.billing.specs.Capped.{Fits, Held}
+use Rattle.billing.specs.Capped.{Held}
 use Rattle.billing.specs.Booked.{hour_for, Booked}
 use Rattle.billing.proofs.Exact.{own_imbalance, own_due, own_fits}
-use Rattle.journal.specs.Figures.{Stage, Planned, Figures, hour_at, facts_at}
+use Rattle.journal.specs.Figures.{Stage, Planned, hour_at, facts_at}
 use Rattle.journal.proofs.Fits.{hour_fits}
 use Rattle.book.specs.Parts.{figures_of, Sound}
 use Rattle.book.proofs.Through.{kept_of, unsettled}

@@ -1,5 +1,5 @@
 -- The accounts as a settlement goes through the parties.
-use Rattle.std.proofs.Common.{◌≡◌, ℕ, suc, ◌+◌, ◌*◌, ◌^◌, ◌<◌, ◌≤◌, true, false, cond, eqb, ltb, ℤ, pos, ◌+ℤ◌, ◌-ℤ◌, neg_ℤ, Option, sym, refl, ap, ◌∙◌, subst, ⊎_elim, arith}
+use Rattle.std.proofs.Common.{◌≡◌, ℕ, suc, ◌+◌, ◌*◌, ◌^◌, ◌<◌, ◌≤◌, cond, eqb, ltb, ℤ, pos, ◌+ℤ◌, ◌-ℤ◌, Option, sym, ap, ◌∙◌, ⊎_elim, arith}
 use mathlib.Core.Logic.{∥∥₁_elim}
 use lib.IntN.{ℤ_set}
 use Rattle.std.proofs.lemmas.Int.{ints}
@@ -19,7 +19,7 @@ use Rattle.pricing.specs.declared.Prices.{Prices}
 use Rattle.integers.specs.Near.{Near}
 use Rattle.integers.specs.Places.{at}
 use Rattle.integers.specs.Sums.{sum_to}
-use Rattle.integers.proofs.Distances.{near_add, near_sub, near_cond, near_zero, near_weaker, near-sum_to}
+use Rattle.integers.proofs.Distances.{near_cond, near_zero, near_weaker, near-sum_to}
 use Rattle.settlement.specs.Bounds.{PricesFit}
 use Rattle.settlement.specs.Payments.{due_to}
 use Rattle.settlement.proofs.Bounds.{due_small}

@@ -38,13 +38,12 @@ use Rattle.ladder.proofs.Stands.{found_stands}
 use Rattle.register.specs.declared.register.Register.{Register}
 use Rattle.register.specs.Registered.{registered, register_row, with_activation}
 use Rattle.pricing.specs.declared.Prices.{Prices}
-use Rattle.rows.specs.Rows.{plan_row, notice_row, bid_row, withdraw_row, hold_row, activate_row, special_row, reading_row}
+use Rattle.rows.specs.Rows.{plan_row, notice_row, bid_row, withdraw_row, hold_row}
 use Rattle.rows.proofs.Accepted.{plan_accepted, notice_accepted, bid_accepted, activate_accepted, special_accepted, reading_accepted}
 use Rattle.journal.specs.Figures.{Stage, Figures}
 use Rattle.journal.specs.Journal.{Entry, Entered, Clock, Plan, Noticed, BidAccepted, Withdrawn, Hold, Activated, Special, Reading, listed_of, with_taken, after}
 use Rattle.journal.specs.Refused.{activate_refused, special_refused, reading_refused, first_of, has_place, is_settled}
 use Rattle.journal.specs.Lawful.{Allowed}
-use Rattle.journal.specs.Kept.{Kept}
 use Rattle.book.specs.Parts.{figures_of, Sound}
 use Rattle.book.specs.View.{Called}
 

@@ -1,5 +1,5 @@
 -- A book just opened.
-use Rattle.std.proofs.Common.{◌≡◌, ℕ, zero, suc, ◌<◌, ◌≤◌, true, ◌&&◌, List, [], ◌∷◌, length, get_or, ℤ, pos, Some, None, vec_items, Option, unwrap_or, sym, refl, ap, ◌∙◌, subst, arith}
+use Rattle.std.proofs.Common.{◌≡◌, ℕ, zero, suc, ◌<◌, ◌≤◌, true, List, [], ◌∷◌, length, ℤ, pos, Some, None, vec_items, Option, unwrap_or, sym, refl, ap, ◌∙◌, subst, arith}
 use Rattle.std.proofs.lemmas.Int.{ints}
 use Rattle.std.proofs.lemmas.Bool.{and_parts}
 use Rattle.units.specs.declared.Price.{Price}
@@ -7,8 +7,8 @@ use Rattle.market.specs.Figures.{price_limit, reading_limit}
 use Rattle.calendar.specs.Clock.{hours_of}
 use Rattle.calendar.proofs.DayTests.{hours_most}
 use Rattle.timetable.specs.declared.timetable.Timetable.{Timetable}
-use Rattle.timetable.specs.Opening.{Times, Opening, opened_by, opening_row, opening_with, opened_times, spot_of}
-use Rattle.timetable.specs.Prices.{each_within, within_limit, price}
+use Rattle.timetable.specs.Opening.{Times, Opening, opened_by, spot_of}
+use Rattle.timetable.specs.Prices.{each_within, within_limit}
 use Rattle.timetable.specs.View.{times}
 use Rattle.timetable.proofs.Days.{within_fact}
 use Rattle.positions.specs.declared.record.Meter.TheVariants.{Production, Consumption}

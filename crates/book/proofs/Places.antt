@@ -1,5 +1,5 @@
 -- The row of a notice is the row of its place.
-use Rattle.std.proofs.Common.{◌≡◌, Bool, true, false, cond, not, ◌||◌, List, length, Option, Some, None, Result, nat_lt, refl, subst}
+use Rattle.std.proofs.Common.{◌≡◌, Bool, true, false, cond, not, ◌||◌, List, length, Some, None, Result, nat_lt, refl, subst}
 use Rattle.refusal.specs.declared.Refusal.{Refusal}
 use Rattle.refusal.specs.declared.Refusal.TheVariants.{NoRoom}
 use Rattle.refusal.specs.Outcome.{Outcome}

@@ -1,13 +1,9 @@
 -- What each call leaves is sound.
-use Rattle.std.proofs.Common.{◌≡◌, ℕ, ◌+◌, ◌<◌, Bool, true, cond, not, ltb, List, length, ℤ, pos, is_some, Some, None, Ok, Err, Option, Result, sym, refl, ap, ◌∙◌, subst, inl, arith}
-use mathlib.Core.Bool.{Bool-set}
-use Rattle.std.proofs.lemmas.Bool.{cond-true, cond-false}
+use Rattle.std.proofs.Common.{◌≡◌, ℕ, ◌+◌, Bool, cond, ℤ, pos, is_some, Some, None, Ok, Err, Result, refl, inl}
 use Rattle.std.specs.Option.{option_map, ok_or}
 use Rattle.refusal.specs.declared.Refusal.{Refusal}
 use Rattle.refusal.specs.declared.Refusal.TheVariants.{NoRoom, NoSuchBid}
 use Rattle.refusal.specs.Outcome.{Outcome}
-use Rattle.refusal.proofs.Outcomes.{accepted, outcome_map, outcome_instead, outcome_done}
-use Rattle.units.specs.declared.KilowattHours.{KilowattHours}
 use Rattle.units.specs.declared.Party.{Party}
 use Rattle.units.specs.declared.Receipt.{Receipt}
 use Rattle.units.specs.declared.Position.{Position}
@@ -15,34 +11,25 @@ use Rattle.market.specs.declared.words.Activation.{Activation}
 use Rattle.market.specs.declared.words.Bid.{Bid}
 use Rattle.market.specs.declared.words.Direction.{Direction}
 use Rattle.market.specs.declared.words.Kind.TheVariants.{Special as SpecialKind}
-use Rattle.market.specs.Figures.{most_activations}
 use Rattle.market.specs.Words.{energy_of}
 use Rattle.timetable.specs.declared.timetable.Timetable.{Timetable}
-use Rattle.timetable.specs.Opening.{Times, enter_row, clock_row, with_party, with_clock}
+use Rattle.timetable.specs.Opening.{enter_row, clock_row, with_party, with_clock}
 use Rattle.timetable.specs.View.{times}
 use Rattle.positions.specs.declared.record.Meter.{Meter}
-use Rattle.positions.specs.declared.record.Meter.TheVariants.{Production, Consumption}
 use Rattle.positions.specs.declared.table.PositionTable.{PositionTable}
-use Rattle.positions.specs.Figures.{in_table}
 use Rattle.positions.specs.Tables.{Planned as Plans, Read}
-use Rattle.positions.proofs.Placed.{in_table_lem}
-use Rattle.integers.specs.Places.{at_party}
 use Rattle.notices.specs.declared.notice.Notice.{Notice}
 use Rattle.notices.specs.declared.table.NoticeTable.{NoticeTable}
 use Rattle.notices.specs.Kept.{kept, place_for, place_row, with_notice}
 use Rattle.ladder.specs.declared.ladder.Ladder.{Ladder}
 use Rattle.ladder.specs.declared.offer.Offer.{Offer}
-use Rattle.ladder.specs.Ladder.{StandingBids, view, added, dropped, marked, taken, bids_of, first_free, has_space, is_free, standing_with}
-use Rattle.ladder.proofs.Stands.{found_stands}
+use Rattle.ladder.specs.Ladder.{view, added, dropped, marked, taken, bids_of, first_free, has_space, standing_with}
 use Rattle.register.specs.declared.register.Register.{Register}
 use Rattle.register.specs.Registered.{registered, register_row, with_activation}
-use Rattle.pricing.specs.declared.Prices.{Prices}
-use Rattle.rows.specs.Rows.{plan_row, notice_row, bid_row, withdraw_row, hold_row, activate_row, special_row, reading_row}
-use Rattle.rows.proofs.Accepted.{plan_accepted, notice_accepted, bid_accepted, activate_accepted, special_accepted, reading_accepted}
+use Rattle.rows.specs.Rows.{plan_row, notice_row, bid_row, withdraw_row, hold_row}
 use Rattle.journal.specs.Figures.{Planned, Running, Metered}
-use Rattle.journal.specs.Journal.{Entry, Entered, Clock, Plan, Noticed, BidAccepted, Withdrawn, Hold, Activated, Special, Reading, listed_of, with_taken, after}
-use Rattle.journal.specs.Refused.{activate_refused, special_refused, reading_refused, notice_refused, plan_refused, first_of, has_place}
-use Rattle.journal.specs.Kept.{Kept}
+use Rattle.journal.specs.Journal.{Entered, Clock, Plan, Noticed, Withdrawn, Hold, Reading, listed_of}
+use Rattle.journal.specs.Refused.{activate_refused, special_refused, reading_refused}
 use Rattle.book.specs.Parts.{figures_of, Sound}
 use Rattle.book.proofs.Calls.{entered, clocked, planned, metered, noticed, bid_entry, bidden, withdrawn, held, activation, activated, special_entry, specially}
 use Rattle.book.proofs.Through.{still_sound, unsettled}

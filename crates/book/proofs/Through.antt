@@ -1,7 +1,6 @@
 -- A call keeps what every run keeps.
-use Rattle.std.proofs.Common.{◌≡◌, ℕ, true, cond, Some, None, Ok, Err, Option, Result, sym, refl, subst, arith}
-use mathlib.Core.Bool.{Bool-set}
-use mathlib.Core.Logic.{∥∥₁_elim, ∥∥₁_map}
+use Rattle.std.proofs.Common.{ℕ, Some, None, Ok, Err, Option, Result, sym, refl, subst}
+use mathlib.Core.Logic.{∥∥₁_map}
 use Rattle.refusal.specs.declared.Refusal.{Refusal}
 use Rattle.timetable.specs.declared.timetable.Timetable.{Timetable}
 use Rattle.positions.specs.declared.table.PositionTable.{PositionTable}
@@ -10,7 +9,7 @@ use Rattle.ladder.specs.declared.ladder.Ladder.{Ladder}
 use Rattle.register.specs.declared.register.Register.{Register}
 use Rattle.pricing.specs.declared.Prices.{Prices}
 use Rattle.journal.specs.Figures.{Stage, Figures}
-use Rattle.journal.specs.Journal.{Entry, after}
+use Rattle.journal.specs.Journal.{Entry}
 use Rattle.journal.specs.Lawful.{InStage}
 use Rattle.journal.specs.Kept.{Kept}
 use Rattle.journal.proofs.Kept.{kept_after, none_settled}

@@ -1,5 +1,5 @@
 -- What the tests of a date say: whether it is covered, whether it is a last Sunday, and so how many hours it has.
-use Rattle.std.proofs.Common.{◌≡◌, ℕ, ◌+◌, ◌-◌, ◌<◌, ◌≤◌, true, false, ◌⊎◌, sym, subst, ⊎_elim, arith, lit≤}
+use Rattle.std.proofs.Common.{◌≡◌, ℕ, ◌+◌, ◌-◌, ◌<◌, ◌≤◌, true, false, sym, subst, ⊎_elim, arith, lit≤}
 use Rattle.std.proofs.lemmas.Bool.{cases_Bool, cases_order, both_ways, and_parts, and_from, leb-true, le-leb, eqb-true, eq-eqb, ne_eqb, and_left, cond_both}
 use Rattle.calendar.specs.declared.Date.{Date}
 use Rattle.calendar.specs.Dates.{leap_year, month_days, days_to_year, days_to_month, LastSunday, Covered}

@@ -1,5 +1,5 @@
 -- Where months, years and the changes of the clock lie in the count of days.
-use Rattle.std.proofs.Common.{◌≡◌, ℕ, zero, suc, ◌+◌, ◌-◌, ◌<◌, ◌≤◌, Bool, true, false, cond, ◌⊎◌, refl, ap, ⊎_elim, le_refl, add-zero, add-suc, arith}
+use Rattle.std.proofs.Common.{◌≡◌, ℕ, zero, suc, ◌+◌, ◌-◌, ◌<◌, ◌≤◌, Bool, true, false, cond, refl, ap, ⊎_elim, le_refl, add-zero, add-suc, arith}
 use Rattle.std.proofs.lemmas.Bool.{cases_order}
 use Rattle.calendar.specs.declared.Date.{Date}
 use Rattle.calendar.specs.Dates.{leap_year, year_days, month_length, days_to_year, days_to_month, day_of, Covered}

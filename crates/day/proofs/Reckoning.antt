@@ -1,9 +1,9 @@
 -- What a metered day keeps, and what it answers.
-use Rattle.std.proofs.Common.{◌≡◌, ℕ, ◌*◌, ◌^◌, ◌<◌, ◌≤◌, Bool, true, false, cond, eqb, ltb, ℤ, pos, ◌+ℤ◌, ◌-ℤ◌, neg_ℤ, is_some, Some, None, Ok, Err, Option, Result, sym, refl, ap, ◌∙◌, subst, arith}
+use Rattle.std.proofs.Common.{◌≡◌, ℕ, ◌*◌, ◌^◌, ◌<◌, ◌≤◌, Bool, true, false, cond, ltb, ℤ, pos, ◌+ℤ◌, ◌-ℤ◌, neg_ℤ, Some, None, Ok, Err, Option, Result, sym, refl, ap, ◌∙◌, subst, arith}
 use mathlib.Core.Logic.{∥∥₁_elim, ∥∥₁_map}
 use lib.IntN.{ℤ_set}
 use Rattle.std.proofs.lemmas.Int.{ints}
-use Rattle.std.proofs.lemmas.Bool.{cond-true, cond-false}
+use Rattle.std.proofs.lemmas.Bool.{cond-true}
 use Rattle.refusal.specs.declared.Refusal.{Refusal}
 use Rattle.refusal.proofs.Outcomes.{accepted}
 use Rattle.market.specs.Figures.{most_hours, price_setting_minutes}
@@ -24,7 +24,7 @@ use Rattle.settlement.specs.Payments.{due_to, operator_takes}
 use Rattle.settlement.proofs.MoneyLaw.{money_sums}
 use Rattle.journal.specs.Figures.{Metered, Figures, times_of, hour_at, facts_at}
 use Rattle.journal.specs.Journal.{Entry, Reading, Settled, with_settled, after}
-use Rattle.journal.specs.Refused.{is_settled, is_complete, reading_refused, settle_refused, account_refused}
+use Rattle.journal.specs.Refused.{is_settled, is_complete, settle_refused}
 use Rattle.journal.specs.Lawful.{Lawful}
 use Rattle.journal.specs.Kept.{Kept}
 use Rattle.journal.specs.Made.{Made}

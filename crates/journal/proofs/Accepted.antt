@@ -1,15 +1,10 @@
 -- What a call's acceptance guarantees: no row applied.
-use Rattle.std.proofs.Common.{◌≡◌, ℕ, ◌<◌, ◌≤◌, max, Bool, true, false, not, ◌&&◌, ◌||◌, ltb, leb, ℤ, pos, neg_ℤ, ◌≤ℤ◌, is_some, Some, None, Option, refl, arith}
-use lib.Signed.{lt_z}
+use Rattle.std.proofs.Common.{◌≡◌, ℕ, ◌<◌, ◌≤◌, Bool, true, false, ℤ, is_some, Some, None, Option, refl, arith}
 use Rattle.std.proofs.lemmas.Int.{ints}
-use Rattle.std.proofs.lemmas.Bool.{and_parts, not-false, or_parts}
-use Rattle.refusal.specs.Rows.{row}
-use Rattle.refusal.specs.declared.Refusal.{Refusal}
 use Rattle.market.specs.declared.words.Activation.{Activation}
 use Rattle.market.specs.declared.words.Direction.{Direction}
 use Rattle.market.specs.declared.words.Direction.TheVariants.{Up, Down}
-use Rattle.market.specs.Figures.{least_bid_volume, greatest_bid_volume, greatest_special_volume, price_limit, plan_limit, reading_limit, notice_limit, minutes_in_hour, most_parties}
-use Rattle.market.specs.Words.{minutes_of}
+use Rattle.market.specs.Figures.{least_bid_volume, greatest_bid_volume, price_limit, plan_limit, reading_limit, notice_limit, minutes_in_hour, most_parties}
 use Rattle.ladder.specs.declared.offer.Offer.{Offer}
 use Rattle.notices.specs.declared.notice.Notice.{Notice}
 use Rattle.timetable.specs.Opening.{Times, enter_row}

@@ -1,15 +1,14 @@
 -- How large the amounts of a day are, from what every run keeps.
-use Rattle.std.proofs.Common.{◌≡◌, ℕ, ◌*◌, ◌^◌, ◌<◌, ◌≤◌, Bool, cond, List, [], ◌∷◌, ℤ, pos, neg_ℤ, Some, None, Option, sym, refl, ap, ◌∙◌, subst, arith}
+use Rattle.std.proofs.Common.{◌≡◌, ℕ, ◌*◌, ◌^◌, ◌<◌, Bool, List, [], ◌∷◌, ℤ, pos, neg_ℤ, Some, None, Option, sym, refl, subst, arith}
 use Rattle.std.proofs.lemmas.Int.{ints}
 use Rattle.std.specs.List.{AllByRecursion}
 use Rattle.std.proofs.ByRecursion.{All-weaker}
 use Rattle.std.proofs.lemmas.Bool.{cond_both}
-use Rattle.market.specs.Figures.{notice_limit, price_setting_minutes, most_parties}
-use Rattle.notices.specs.declared.notice.Notice.{Notice}
+use Rattle.market.specs.Figures.{notice_limit, price_setting_minutes}
 use Rattle.notices.specs.Order.{notice_same, energy_of}
-use Rattle.notices.specs.Kept.{value_like, between}
+use Rattle.notices.specs.Kept.{value_like}
 use Rattle.pricing.specs.declared.Prices.{Prices}
-use Rattle.pricing.specs.Policies.{ShowsRules, Bounded, Regular}
+use Rattle.pricing.specs.Policies.{Bounded}
 use Rattle.integers.specs.Near.{Near}
 use Rattle.integers.specs.Sums.{sum_to}
 use Rattle.integers.proofs.Distances.{near_zero, near_weaker, near_neg, near-sum_to}

@@ -1,5 +1,5 @@
 -- What every run of lawful calls keeps.
-use Rattle.std.proofs.Common.{◌≡◌, ℕ, suc, ◌+◌, ◌<◌, ◌≤◌, Bool, true, false, cond, eqb, ◌⊎◌, List, [], ◌∷◌, length, ℤ, pos, is_some, Some, None, filter, Option, unwrap_or, sym, refl, ap, ◌∙◌, subst, inl, inr, ⊎_elim, arith}
+use Rattle.std.proofs.Common.{◌≡◌, ℕ, suc, ◌+◌, ◌<◌, ◌≤◌, Bool, true, false, eqb, ◌⊎◌, List, [], ◌∷◌, length, ℤ, pos, is_some, Some, None, filter, Option, unwrap_or, sym, refl, ap, ◌∙◌, subst, inl, inr, ⊎_elim, arith}
 use Rattle.std.specs.List.{AllByRecursion}
 use Rattle.std.proofs.ByRecursion.{All-weaker, all_kept_by}
 use Rattle.std.proofs.lemmas.List.{length-append}
@@ -13,31 +13,29 @@ use Rattle.market.specs.declared.words.Activation.{Activation}
 use Rattle.market.specs.declared.words.Bid.{Bid}
 use Rattle.market.specs.declared.words.Direction.{Direction}
 use Rattle.units.specs.declared.Position.{Position}
-use Rattle.market.specs.declared.words.Kind.TheVariants.{Listed}
-use Rattle.market.specs.Figures.{least_bid_volume, greatest_bid_volume, price_limit, plan_limit, reading_limit, notice_limit, most_parties, most_activations}
+use Rattle.market.specs.Figures.{plan_limit, reading_limit, most_activations}
 use Rattle.market.specs.Order.{activation_key, activation_before}
 use Rattle.timetable.specs.Opening.{Opening}
 use Rattle.ladder.specs.Ladder.{StandingBids, AllBids, with_held, bids_of}
 use Rattle.ladder.proofs.Keeps.{all_none, all_added, all_dropped, all_marked, all_of, is_first_free}
 use Rattle.notices.specs.declared.notice.Notice.{Notice}
-use Rattle.notices.specs.Order.{notice_key, notice_before, notice_same, energy_of, is_zero}
+use Rattle.notices.specs.Order.{notice_key, notice_before, notice_same, is_zero}
 use Rattle.notices.specs.Kept.{with_notice}
 use Rattle.positions.specs.declared.record.Meter.{Meter}
 use Rattle.positions.specs.declared.record.Meter.TheVariants.{Production, Consumption}
 use Rattle.register.specs.Registered.{arrived, with_activation}
 use Rattle.pricing.specs.declared.Facts.{Facts}
 use Rattle.pricing.specs.declared.Prices.{Prices}
-use Rattle.pricing.specs.Policies.{ShowsRules, Within}
-use Rattle.facts.specs.Sound.{OnItsSide, SoundActivation}
-use Rattle.integers.specs.Near.{Near}
+use Rattle.pricing.specs.Policies.{ShowsRules}
+use Rattle.facts.specs.Sound.{OnItsSide}
 use Rattle.integers.specs.Places.{at, at_party}
-use Rattle.settlement.specs.Bounds.{FromZero, ActivationFits}
+use Rattle.settlement.specs.Bounds.{FromZero}
 use Rattle.journal.specs.Figures.{Stage, Planned, Running, Metered, Figures, times_of, facts_at}
 use Rattle.journal.specs.Journal.{Entry, Journal, Entered, Plan, Noticed, Clock, Start, BidAccepted, Withdrawn, Hold, Activated, Special, Finish, Reading, Settled, listed_of, with_taken, with_reading, with_settled, after, figures}
 use Rattle.journal.specs.Refused.{first_of, has_place, is_settled, is_complete}
 use Rattle.journal.specs.Kept.{BidSound, ActivationSound, Ruled, Trades, Energies, Settlements, Kept}
 use Rattle.journal.specs.Lawful.{Takes, Early, Lawful, LawfulJournal}
-use Rattle.journal.proofs.Accepted.{entering, planning, noticing, bidding, activating, has_room, specially, reading, settling, none_of}
+use Rattle.journal.proofs.Accepted.{entering, planning, noticing, bidding, activating, has_room, specially, reading, settling}
 
 -- the stages differ
 pub planned_not_metered : (s : Stage) → s ≡ Planned → s ≡ Metered → ⊥

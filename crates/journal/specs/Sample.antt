@@ -10,7 +10,6 @@ use Rattle.pricing.specs.Policies.{four}
 use Rattle.settlement.specs.Hour.{net_outside_purchases}
 use Rattle.settlement.specs.HourLaws.{Balanced, NoneSpecial}
 use Rattle.units.specs.declared.Price.{Price}
-use Rattle.calendar.specs.declared.Date.{Date}
 use Rattle.timetable.specs.Opening.{Opening}
 use Rattle.notices.specs.declared.notice.Notice.{Notice}
 use Rattle.positions.specs.declared.record.Meter.TheVariants.{Production as ProductionMeter, Consumption as ConsumptionMeter}

@@ -1,5 +1,5 @@
 -- What a pricing policy owes: three rules on the regular facts of an hour. Assumes nothing.
-use Rattle.std.specs.Prelude.{◌≡◌, ℕ, true, false, ℤ, pos, neg_ℤ, ◌≤ℤ◌, ◌<ℤ◌}
+use Rattle.std.specs.Prelude.{◌≡◌, ℕ, true, false, pos, neg_ℤ, ◌≤ℤ◌, ◌<ℤ◌}
 use Rattle.units.specs.declared.Price.{Price}
 use Rattle.pricing.specs.declared.Facts.{Facts}
 use Rattle.pricing.specs.declared.PricePair.{PricePair}

@@ -1,14 +1,13 @@
 -- The law of a whole run, from what stands at the end of each stage.
-use Rattle.std.proofs.Common.{◌≡◌, ℕ, List, [], ◌∷◌, length, ℤ, vec_items, sym, refl, ap, ◌∙◌, subst}
+use Rattle.std.proofs.Common.{◌≡◌, List, [], ◌∷◌, length, ℤ, vec_items, sym, ap, ◌∙◌, subst}
 use Rattle.calendar.specs.declared.Date.{Date}
-use Rattle.timetable.specs.Opening.{Opening, opened_times}
+use Rattle.timetable.specs.Opening.{Opening}
 use Rattle.pricing.specs.declared.Facts.{Facts}
 use Rattle.pricing.specs.declared.Prices.{Prices}
 use Rattle.journal.specs.Figures.{Figures, opened}
-use Rattle.journal.specs.Journal.{Journal, Start, Finish, after, figures}
-use Rattle.journal.specs.Lawful.{Lawful, LawfulOpening, LawfulJournal}
+use Rattle.journal.specs.Journal.{Journal, Start, Finish}
+use Rattle.journal.specs.Lawful.{LawfulOpening, LawfulJournal}
 use Rattle.journal.specs.Reckoned.{account_at, operator_at}
-use Rattle.journal.specs.Sums.{ThreeSums}
 use Rattle.journal.proofs.Law.{three_sums_lem}
 use Rattle.day.specs.View.{metered}
 use Rattle.replay.specs.declared.calls.MeteredCall.{MeteredCall}

@@ -1,17 +1,14 @@
 -- The law of a whole run.
-use Rattle.std.specs.Prelude.{◌≡◌, ℕ, List, [], ◌∷◌, length, ℤ, vec_items, Result}
-use Rattle.refusal.specs.declared.Refusal.{Refusal}
+use Rattle.std.specs.Prelude.{◌≡◌, ℕ, List, [], ◌∷◌, length, ℤ, vec_items}
 use Rattle.calendar.specs.declared.Date.{Date}
 use Rattle.timetable.specs.Opening.{Opening, opened_times}
 use Rattle.pricing.specs.declared.Facts.{Facts}
 use Rattle.pricing.specs.declared.Prices.{Prices}
-use Rattle.journal.specs.Figures.{Figures}
 use Rattle.journal.specs.Journal.{Journal, Start, Finish, figures}
 use Rattle.journal.specs.Lawful.{LawfulJournal}
 use Rattle.journal.specs.Reckoned.{account, operator_account, account_at, operator_at}
 use Rattle.journal.specs.Sums.{ThreeSums}
 use Rattle.day.specs.View.{metered}
-use Rattle.replay.specs.declared.calls.Answer.{Answer}
 use Rattle.replay.specs.declared.calls.MeteredCall.{MeteredCall}
 use Rattle.replay.specs.declared.calls.PlannedCall.{PlannedCall}
 use Rattle.replay.specs.declared.calls.RunningCall.{RunningCall}

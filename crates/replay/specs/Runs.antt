@@ -1,5 +1,5 @@
 -- A list of calls and their answers, run in turn.
-use Rattle.std.specs.Prelude.{◌≡◌, List, [], ◌∷◌, length, Some, None, Ok, Err, Option, Result}
+use Rattle.std.specs.Prelude.{◌≡◌, List, [], ◌∷◌, Some, None, Ok, Err, Option, Result}
 use Rattle.refusal.specs.declared.Refusal.{Refusal}
 use Rattle.timetable.specs.Opening.{Opening}
 use Rattle.journal.specs.Figures.{Figures}

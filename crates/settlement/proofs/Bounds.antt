@@ -10,7 +10,6 @@ use Rattle.market.specs.declared.words.Direction.{Direction}
 use Rattle.market.specs.declared.words.Direction.TheVariants.{Up, Down}
 use Rattle.market.specs.declared.words.Portfolio.{Portfolio}
 use Rattle.market.specs.declared.words.Portfolio.TheVariants.{Production, ConsumptionAndTrade}
-use Rattle.market.specs.Energy.{energy}
 use Rattle.market.specs.Figures.{first_outside, outside_parties, notice_limit, most_activations}
 use Rattle.market.specs.Words.{energy_of, minutes_of}
 use Rattle.market.proofs.EnergyLaws.{lawful}
@@ -22,7 +21,7 @@ use Rattle.register.specs.Totals.{of_hour, of_account, adds, total_of}
 use Rattle.integers.specs.Near.{Near}
 use Rattle.integers.proofs.Distances.{near_zero, near_weaker, near_neg, near_add, near_sub, near_cond, near_mul, near-sum_to, near-sum_over, abs_near}
 use Rattle.settlement.specs.Hour.{Hour, counted, trade, from_outside, supplement, imbalance}
-use Rattle.settlement.specs.Payments.{surplus, shortfall, priced, signed, direction_price, is_long, payment, regulation_to, due_to}
+use Rattle.settlement.specs.Payments.{priced, signed, direction_price, is_long, payment, regulation_to, due_to}
 use Rattle.settlement.specs.Bounds.{FromZero, ActivationFits, HourFits, PricesFit, ImbalancesSmall, DuesSmall}
 
 near_from_within : (n : ℕ) (p : Price) → Within n p → Near n p.0

@@ -1,12 +1,12 @@
 -- The bounds of a timetable.
-use Rattle.std.proofs.Common.{ℕ, zero, suc, ◌≤◌, length, pos, vec_items, refl, subst, ⊎_elim, arith, lit≤}
+use Rattle.std.proofs.Common.{ℕ, zero, suc, ◌≤◌, length, vec_items, refl, subst, ⊎_elim, arith, lit≤}
 use Rattle.std.proofs.lemmas.Bool.{cases_lt}
 use Rattle.calendar.specs.declared.Date.{Date}
 use Rattle.calendar.proofs.DayTests as days
 use Rattle.timetable.specs.declared.timetable.Timetable.{Timetable}
 use Rattle.timetable.specs.Bounds.{Bounded}
 use Rattle.timetable.specs.Opening.{spot_of}
-use Rattle.timetable.specs.Prices.{Within, price}
+use Rattle.timetable.specs.Prices.{Within}
 use Rattle.timetable.specs.View.{times}
 use Rattle.timetable.proofs.Days.{Whole, no_spot, spot_within, zero_within}
 

@@ -1,5 +1,5 @@
 -- A run of prices, one at a time.
-use Rattle.std.proofs.Common.{◌≡◌, ℕ, ◌+◌, ◌<◌, ◌≤◌, true, false, ◌&&◌, List, [], ◌∷◌, ◌++◌, length, get_or, drop, ℤ, pos, sym, refl, ap, ◌∙◌, append_assoc, append-nil, add-one, arith, drop-cons}
+use Rattle.std.proofs.Common.{◌≡◌, ℕ, ◌+◌, ◌<◌, ◌≤◌, true, false, ◌&&◌, List, [], ◌∷◌, ◌++◌, length, get_or, drop, ℤ, pos, sym, ap, ◌∙◌, append_assoc, append-nil, add-one, drop-cons}
 use Rattle.units.specs.declared.Price.{Price}
 use Rattle.std.proofs.lemmas.List.{drop_all}
 use Rattle.timetable.specs.Prices.{price, priced, within_limit, each_within}

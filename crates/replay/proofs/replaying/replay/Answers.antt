@@ -1,7 +1,7 @@
 use Rattle.std.proofs.Common.{[], ◌∷◌, ap, ◌∙◌, subst}
 use Rattle.journal.specs.Journal.{Start, Finish, after}
 use Rattle.journal.specs.Lawful.{Lawful}
-use Rattle.day.specs.View.{planned, running}
+use Rattle.day.specs.View.{planned}
 use Rattle.replay.specs.declared.run.Replay.{Replay}
 use Rattle.replay.specs.Law.{opening_for, planned_journal, running_journal}
 use Rattle.replay.proofs.Whole.{just_opened, whole}

@@ -1,4 +1,4 @@
-use Rattle.std.proofs.Common.{◌≡◌, is_some, sym, refl, ap, ◌∙◌, subst}
+use Rattle.std.proofs.Common.{◌≡◌, is_some, sym, refl, ap, ◌∙◌}
 use Rattle.refusal.proofs.Outcomes.{refused}
 use Rattle.accounts.specs.Booked.{settled_of}
 use Rattle.timetable.specs.View.{times}

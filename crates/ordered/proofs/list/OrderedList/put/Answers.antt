@@ -1,7 +1,7 @@
 use Rattle.std.proofs.Common.{◌≡◌, ◌<◌, Ok, Err, sym, refl, ◌∙◌, subst, arith}
 use Rattle.std.proofs.lemmas.Bool.{cond-true, true≢false}
 use Rattle.std.specs.List.{insert}
-use Rattle.ordered.specs.Order.{Sought, rises}
+use Rattle.ordered.specs.Order.{Sought}
 use Rattle.ordered.proofs.Placed.{placed_inserted, placed_set}
 use Rattle.ordered.proofs.Ensured.{full_test, replaced_test, rises_after, room_test}
 use Rattle.ordered.proofs.list.OrderedList.put.Goals as goal

@@ -1,4 +1,4 @@
-use Rattle.std.proofs.Common.{◌≡◌, ◌≤◌, length, vec_items, arith, rules}
+use Rattle.std.proofs.Common.{◌≡◌, length, vec_items, arith, rules}
 use Rattle.timetable.proofs.Bounded.{hours_most}
 use Rattle.timetable.proofs.timetable.Timetable.hours.Goals as goal
 
