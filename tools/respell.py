@@ -25,6 +25,8 @@ BY_HAND = {
     "is-listed": "is_listed_lem",
     "net-energy": "net_energy_is",
     "netEnergy": "net_energy_of",
+    "october-2A": "october_2_a",
+    "october-2B": "october_2_b",
     "of-hour": "of_the_hour",
     "opened-by": "opened_by_lem",
     "opened-times": "opened_times_lem",

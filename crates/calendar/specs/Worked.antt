@@ -27,8 +27,8 @@ Lacks date n mark number = (in_day (position_of (hours_of date) n mark) ≡ Err 
 pub record WorkedCases : Type 0 where
   pub october_hours : hours_of october_day ≡ 25
   pub october_start : start_of october_day ≡ pos 9375720
-  pub october_2_A : Has october_day 2 A 2
-  pub october_2_B : Has october_day 2 B 3
+  pub october_2_a : Has october_day 2 A 2
+  pub october_2_b : Has october_day 2 B 3
   pub october_3 : Has october_day 3 Unmarked 4
   pub october_2 : Lacks october_day 2 Unmarked 1
   pub march_hours : hours_of march_day ≡ 23

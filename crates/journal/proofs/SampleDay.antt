@@ -1,5 +1,5 @@
 -- The worked days, computed.
-use Rattle.std.proofs.Common.{refl, inl, arith, lit≤}
+use Rattle.std.proofs.Common.{◌≡◌, refl, inl, arith, lit≤}
 use Rattle.std.proofs.lemmas.Int.{ints}
 use Rattle.market.specs.Energy.{energy}
 use Rattle.ordered.specs.Lex.{lex_before, lex_same}
@@ -14,7 +14,10 @@ use Rattle.settlement.specs.Payments.{priced, payment}
 use Rattle.journal.specs.Figures.{facts_at}
 use Rattle.journal.specs.Reckoned.{booked_in}
 use Rattle.journal.specs.Lawful.{LawfulOpening}
-use Rattle.journal.specs.Sample.{sample_opening, SampleDay, MixedDay}
+use Rattle.journal.specs.Sample.{sample_opening, SampleDay, MixedDay, accounts_of}
+use Rattle.settlement.specs.declared.bills.WorkedDay.{WorkedDay}
+use Rattle.settlement.specs.declared.bills.WorkedDay.TheVariants.{Sample, Mixed}
+use Rattle.settlement.specs.Bills.{bill_of}
 
 within_limit_lem : LawfulOpening sample_opening
 within_limit_lem = record { few_hours = lit≤ tt; spots = λ h l. record { low = omega (arith, ints); high = omega (arith, ints) } }
@@ -44,3 +47,7 @@ mixed_day =
       second_party = refl;
       operator = refl;
     }
+
+pub billed : (day : WorkedDay) → bill_of day ≡ accounts_of day
+billed Sample = rw (sample_day.first_party, sample_day.second_party, sample_day.operator) refl
+billed Mixed = rw (mixed_day.first_party, mixed_day.second_party, mixed_day.operator) refl

@@ -1,5 +1,5 @@
 -- The sample day: a party that produces, one that consumes, and one activation.
-use Rattle.std.specs.Prelude.{◌≡◌, ℕ, [], ◌∷◌, ℤ, pos, neg_ℤ, Some}
+use Rattle.std.specs.Prelude.{◌≡◌, ℕ, [], ◌∷◌, ℤ, pos, neg_ℤ, Some, List}
 use Rattle.market.specs.declared.words.Activation.{Activation}
 use Rattle.market.specs.declared.words.Direction.TheVariants.{Up, Down}
 use Rattle.market.specs.declared.words.Kind.TheVariants.{Special as SpecialKind}
@@ -18,6 +18,8 @@ use Rattle.journal.specs.Journal.{Journal, Entered, Plan, Noticed, Start, BidAcc
 use Rattle.journal.specs.Reckoned.{account, operator_account}
 use Rattle.journal.specs.Sums.{OneWay}
 use Rattle.journal.specs.Lawful.{LawfulJournal}
+use Rattle.settlement.specs.declared.bills.WorkedDay.{WorkedDay}
+use Rattle.settlement.specs.declared.bills.WorkedDay.TheVariants.{Sample as SampleBill, Mixed as MixedBill}
 
 abbrev cents : ℕ → Price
 cents n = record { 0 = pos n }
@@ -111,3 +113,12 @@ pub record MixedDay : Type 0 where
   pub first_party : account sample_opening mixed_journal 0 ≡ pos 3_540_000
   pub second_party : account sample_opening mixed_journal 1 ≡ pos 1_980_000
   pub operator : operator_account sample_opening mixed_journal ≡ neg_ℤ (pos 5_520_000)
+
+abbrev pub worked_journal : WorkedDay → Journal
+worked_journal SampleBill = sample_journal
+worked_journal MixedBill = mixed_journal
+
+-- of the two parties and of the operator
+abbrev pub accounts_of : WorkedDay → List ℤ
+accounts_of day =
+    account sample_opening (worked_journal day) 0 ∷ account sample_opening (worked_journal day) 1 ∷ operator_account sample_opening (worked_journal day) ∷ []

@@ -1,5 +1,5 @@
 -- The sample day: a party that produces, one that consumes, and one activation.
-use Rattle.std.specs.Prelude.{◌≡◌, ℕ, [], ◌∷◌, pos, neg_ℤ, Some}
+use Rattle.std.specs.Prelude.{◌≡◌, ℕ, [], ◌∷◌, pos, neg_ℤ, Some, List, ℤ}
 use Rattle.market.specs.declared.words.Activation.{Activation}
 use Rattle.market.specs.declared.words.Direction.TheVariants.{Up, Down}
 use Rattle.market.specs.declared.words.Kind.TheVariants.{Special as SpecialKind}
@@ -15,6 +15,8 @@ use Rattle.ledger.specs.Journal.{Journal, Produced, Consumed, Entered, Plan, Not
 use Rattle.ledger.specs.Reckoned.{position, hour_at, facts_at, account, operator_account}
 use Rattle.ledger.specs.Sums.{OneWay}
 use Rattle.ledger.specs.Lawful.{LawfulJournal}
+use Rattle.settlement.specs.declared.bills.WorkedDay.{WorkedDay}
+use Rattle.settlement.specs.declared.bills.WorkedDay.TheVariants.{Sample as SampleBill, Mixed as MixedBill}
 
 -- 2017-12-20, spot 3,000 throughout
 abbrev pub sample_opening : Opening
@@ -105,3 +107,12 @@ pub record MixedDay : Type 0 where
   pub first_party : account sample_opening mixed_journal 0 ≡ pos 3_540_000
   pub second_party : account sample_opening mixed_journal 1 ≡ pos 1_980_000
   pub operator : operator_account sample_opening mixed_journal ≡ neg_ℤ (pos 5_520_000)
+
+abbrev pub worked_journal : WorkedDay → Journal
+worked_journal SampleBill = sample_journal
+worked_journal MixedBill = mixed_journal
+
+-- of the two parties and of the operator
+abbrev pub accounts_of : WorkedDay → List ℤ
+accounts_of day =
+    account sample_opening (worked_journal day) 0 ∷ account sample_opening (worked_journal day) 1 ∷ operator_account sample_opening (worked_journal day) ∷ []

@@ -6,6 +6,10 @@ ghost use Rattle.settlement.specs.Hour.{counted};
 
 use units::KilowattHours;
 
+mod bills;
+
+pub use bills::{WorkedDay, hand_bill};
+
 // What counts of a notice, given what the other of the two sent back: all of it where that is its exact negative, else nothing.
 pub fn counted(sent: KilowattHours, back: KilowattHours) -> KilowattHours
     ensures { result.0 ≡ counted sent.0 back.0 }

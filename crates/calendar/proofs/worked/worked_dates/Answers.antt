@@ -10,8 +10,8 @@ worked =
     record {
       october_hours = refl;
       october_start = refl;
-      october_2_A = refl;
-      october_2_B = refl;
+      october_2_a = refl;
+      october_2_b = refl;
       october_3 = refl;
       october_2 = (refl, refl);
       march_hours = refl;

@@ -23,8 +23,8 @@ put_up c =
     put_back Up _ r.0 c.args.held (items l.up) c.standing.result.now (items c.put.new.self) k (is_ok c.put.result)
     (c.standing.ensures.value ∙ ap (λ d. bids_of d (view l)) is) l.upward most at.0 (ap (λ v. v.0) at.1) (c.put.ensures.test l.upward.0, c.put.ensures.items l.upward.0)
 
-put-down : (c : goal.After-put-in-Down) → Back Down c.args.receipt.0 c.args.held (items c.args.self.now.down) (items c.put-in-Down.new.self)
-put-down c =
+put_down : (c : goal.After-put-in-Down) → Back Down c.args.receipt.0 c.args.held (items c.args.self.now.down) (items c.put-in-Down.new.self)
+put_down c =
     let l = c.args.self.now in
     let k = c.in-Some.place in
     let r = c.args.receipt in
@@ -51,7 +51,7 @@ invariant_of-self-in-Down c =
     let xs = items l.up in
     let ys = items l.down in
     let vs = items c.put-in-Down.new.self in
-    let p = put-down c in
+    let p = put_down c in
     let size : length vs ≡ length ys = p.size in
     let fewer : Fewer xs ys xs vs = λ r. let f = p.counts r in omega arith in
     record { upward = l.upward; downward = p.side; space = (l.space.0, c.put-in-Down.ensures.space ∙ l.space.1); room = (omega (arith, l.room.0), l.room.1); once = once_fewer xs ys xs vs fewer l.once; fresh = fresh_fewer l.given xs ys xs vs fewer l.fresh }
@@ -79,5 +79,5 @@ returns-in-Down c =
     let some : standing_with r (view l) ≡ Some (get_or bids k no_bid) = sym at.value ∙ slice_get-get_or bids k no_bid at.within.0 in
     record {
       value = sym (ap (λ o. ok_or (option_map (λ _. tt) o) NoSuchBid) some);
-      after = marked_down Down r l.given c.args.held (items l.up) (items l.down) (items c.put-in-Down.new.self) (standing_with r (view l)) (get_or bids k no_bid) (put-down (goal.at.returns-in-Down c).After-put-in-Down) l.once some;
+      after = marked_down Down r l.given c.args.held (items l.up) (items l.down) (items c.put-in-Down.new.self) (standing_with r (view l)) (get_or bids k no_bid) (put_down (goal.at.returns-in-Down c).After-put-in-Down) l.once some;
     }
