@@ -1,8 +1,11 @@
 -- The accounts once one of their entries is written.
-use Rattle.std.proofs.Common.{◌≡◌, ℕ, ◌<◌, ◌≤◌, cond, eqb, ltb, List, length, get_or, set, replicate, ℤ, pos, ◌+ℤ◌, ◌-ℤ◌, Some, None, Option, sym, ap, ◌∙◌, ⊎_elim, get_or-set_other, get_or-set_same}
+use Rattle.std.proofs.Common.{◌≡◌, ℕ, ◌<◌, cond, eqb, ltb, List, length, get_or, set, replicate, ℤ, pos, ◌+ℤ◌, ◌-ℤ◌, Some, None, Option, option_copied, unwrap_or, Bor, sym, refl, ap, ◌∙◌, ⊎_elim, arith, get_or-set_other, get_or-set_same}
 use mathlib.Core.Path.{fun_ext}
-use Rattle.std.proofs.lemmas.List.{get_or-replicate}
-use Rattle.std.proofs.lemmas.Bool.{cases_Bool, cases_eq, cond-true, cond-false, eq-eqb, ne_eqb, lt-ltb, le-ltb, ltb-true}
+use Rattle.std.proofs.lemmas.List.{get_or-replicate, get_or_past}
+use Rattle.std.specs.Option.{UnwrapsOrElse, option_flatten}
+use Rattle.std.specs.Slice.{IsItemAt}
+use Rattle.std.proofs.lemmas.Option.{none-some, same_Some}
+use Rattle.std.proofs.lemmas.Bool.{cases_Bool, cases_eq, cond_both, cond-true, cond-false, eq-eqb, ne_eqb, lt-ltb, ltb-false, ltb-true}
 use Rattle.units.specs.declared.Mills.{Mills}
 use Rattle.pricing.specs.declared.Prices.{Prices}
 use Rattle.market.specs.Figures.{most_hours, most_parties}
@@ -33,6 +36,12 @@ module _ {X Y : Type 0} (n : ℕ) (d : X) (f : X → Y) (z : Y) where
       ∙ sym (cond-false (eqb j k) (f y) (cond (ltb j n) (f (get_or xs j d)) z) (ne_eqb j k e)))
       (cases_eq j k))
 
+  read_all : (xs : List X) (j : ℕ) → length xs ≡ n → f d ≡ z → f (get_or xs j d) ≡ seen xs j
+  unfolding seen
+  read_all xs j all is =
+      cond_both (ltb j n) (f (get_or xs j d)) z (λ w. f (get_or xs j d) ≡ w) (λ e. refl)
+      (λ e. ap f (get_or_past xs j d (omega (arith, all, ltb-false j n e))) ∙ is)
+
   none_yet : (xs : List X) → ((k : ℕ) → k < n → f (get_or xs k d) ≡ z) → seen xs ≡ (λ j. z)
   unfolding seen
   none_yet xs each =
@@ -42,22 +51,28 @@ module _ {X Y : Type 0} (n : ℕ) (d : X) (f : X → Y) (z : Y) where
       (λ e. cond-false (ltb j n) (f (get_or xs j d)) z e)
       (cases_Bool (ltb j n)))
 
+pub or_nothing : (o : Option Mills) (m : Mills) → UnwrapsOrElse o (λ y. y.0 ≡ pos 0) m → m.0 ≡ (unwrap_or o (record { 0 = pos 0 })).0
+or_nothing None m is = is
+or_nothing (Some y) m is = ap (λ z. z.0) is
+
 -- what is read of one account and of one hour
-pub amount_within : (a : Accounts) (p : ℕ) → p < most_parties → (get_or a.parties p (record { 0 = pos 0 })).0 ≡ amounts_of a p
-unfolding amounts_of
-amount_within a p l = sym (cond-true (ltb p most_parties) (get_or a.parties p (record { 0 = pos 0 })).0 (pos 0) (lt-ltb p most_parties l))
+pub amount_read : (a : Accounts) (p : ℕ) → length a.parties ≡ most_parties → (get_or a.parties p (record { 0 = pos 0 })).0 ≡ amounts_of a p
+unfolding amounts_of seen nothing
+amount_read a p all = read_all most_parties nothing (λ y. y.0) (pos 0) a.parties p all refl
 
-pub amount_past : (a : Accounts) (p : ℕ) → most_parties ≤ p → pos 0 ≡ amounts_of a p
-unfolding amounts_of
-amount_past a p l = sym (cond-false (ltb p most_parties) (get_or a.parties p (record { 0 = pos 0 })).0 (pos 0) (le-ltb p most_parties l))
+pub settled_read : (a : Accounts) (h : ℕ) → length a.settled ≡ most_hours → get_or a.settled h None ≡ settled_of a h
+unfolding settled_of seen
+settled_read a h all = read_all most_hours None (λ y. y) None a.settled h all refl
 
-pub settled_within : (a : Accounts) (h : ℕ) → h < most_hours → get_or a.settled h None ≡ settled_of a h
-unfolding settled_of
-settled_within a h l = sym (cond-true (ltb h most_hours) (get_or a.settled h None) None (lt-ltb h most_hours l))
+pub flattened : {X : Type 0} (o : Option (Option X)) → option_flatten o ≡ unwrap_or o None
+flattened None = refl
+flattened (Some o) = refl
 
-pub settled_past : (a : Accounts) (h : ℕ) → most_hours ≤ h → None ≡ settled_of a h
-unfolding settled_of
-settled_past a h l = sym (cond-false (ltb h most_hours) (get_or a.settled h None) None (le-ltb h most_hours l))
+-- an account that was found
+pub found : (xs : List Mills) (p : ℕ) (o : Option (Bor Mills)) (m : Mills) → IsItemAt xs p o → Some m ≡ option_copied o → (p < length xs) × (m.0 ≡ (get_or xs p (record { 0 = pos 0 })).0)
+found xs p None m item is = absurd (none-some m (sym is))
+found xs p (Some x) m item is =
+    (ltb-true p (length xs) (sym item.0), ap (λ y. y.0) (same_Some m x.now is ∙ item.4 (omega arith) (record { 0 = pos 0 })))
 
 module _ (a after : Accounts) where
   same_amounts : after.parties ≡ a.parties → amounts_of after ≡ amounts_of a

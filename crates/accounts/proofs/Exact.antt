@@ -17,11 +17,7 @@ exact p x a after booked below fits operator_fits = (
   booked.operator ∙ (cond-true (ltb p most_parties) (capped (operator_of a -ℤ x)) (operator_of a) (lt-ltb p most_parties below) ∙ uncapped (operator_of a -ℤ x) operator_fits),
 )
 
--- a sum and a difference as they are kept in 64 bits
-pub kept_sum : (a x r : ℤ) → SFits w64 a → SFits w64 x → SFits w64 r → r ≡ capped (to_z w64 (of_z w64 a) +ℤ to_z w64 (of_z w64 x)) → to_z w64 (of_z w64 r) ≡ capped (a +ℤ x)
-kept_sum a x r fa fx fr e =
-    (to_z-of_z w64 r fr ∙ e) ∙ (ap (λ u. capped (u +ℤ to_z w64 (of_z w64 x))) (to_z-of_z w64 a fa) ∙ ap (λ u. capped (a +ℤ u)) (to_z-of_z w64 x fx))
-
-pub kept_rest : (a x r : ℤ) → SFits w64 a → SFits w64 x → SFits w64 r → r ≡ capped (to_z w64 (of_z w64 a) -ℤ to_z w64 (of_z w64 x)) → to_z w64 (of_z w64 r) ≡ capped (a -ℤ x)
-kept_rest a x r fa fx fr e =
-    (to_z-of_z w64 r fr ∙ e) ∙ (ap (λ u. capped (u -ℤ to_z w64 (of_z w64 x))) (to_z-of_z w64 a fa) ∙ ap (λ u. capped (a -ℤ u)) (to_z-of_z w64 x fx))
+-- a sum or a difference as it is kept in 64 bits
+pub kept : (op : ℤ → ℤ → ℤ) (a x r : ℤ) → SFits w64 a → SFits w64 x → SFits w64 r → r ≡ capped (op (to_z w64 (of_z w64 a)) (to_z w64 (of_z w64 x))) → to_z w64 (of_z w64 r) ≡ capped (op a x)
+kept op a x r fa fx fr e =
+    (to_z-of_z w64 r fr ∙ e) ∙ (ap (λ u. capped (op u (to_z w64 (of_z w64 x)))) (to_z-of_z w64 a fa) ∙ ap (λ u. capped (op a u)) (to_z-of_z w64 x fx))

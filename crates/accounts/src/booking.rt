@@ -2,7 +2,6 @@
 ghost use Rattle.accounts.specs.Booked.{Booked, BookedExactly, Settled};
 
 use crate::Accounts;
-use market::figures::{MOST_HOURS, MOST_PARTIES};
 use pricing::Prices;
 use units::{Mills, Party, Position};
 
@@ -12,8 +11,7 @@ impl Accounts {
         ensures booked { Booked party.0 amount.0 self.old self.new }
         ensures exactly { BookedExactly party.0 amount.0 self.old self.new }
     {
-        if party.0 < MOST_PARTIES {
-            let Mills(held) = self.parties[party.0];
+        if let Some(Mills(held)) = self.parties.get(party.0).copied() {
             self.parties[party.0] = Mills(held.saturating_add(amount.0));
             self.operator = Mills(self.operator.0.saturating_sub(amount.0));
         }
@@ -23,7 +21,8 @@ impl Accounts {
     pub fn settle(&mut self, hour: Position, prices: Prices)
         ensures { Settled hour.0 prices self.old self.new }
     {
-        if hour.0 < MOST_HOURS {
+        // A test and an index: of what `get_mut` leaves in an array only the length is known.
+        if hour.0 < self.settled.len() {
             self.settled[hour.0] = Some(prices);
         }
     }

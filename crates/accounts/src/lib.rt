@@ -33,11 +33,7 @@ impl Accounts {
     pub fn amount(&self, party: Party) -> Mills
         ensures { result.0 ≡ amounts_of self.now party.0 }
     {
-        if party.0 < MOST_PARTIES {
-            self.parties[party.0]
-        } else {
-            Mills(0)
-        }
+        self.parties.get(party.0).copied().unwrap_or_default()
     }
 
     pub fn operator(&self) -> Mills
@@ -50,10 +46,6 @@ impl Accounts {
     pub fn prices_of(&self, hour: Position) -> Option<Prices>
         ensures { result ≡ settled_of self.now hour.0 }
     {
-        if hour.0 < MOST_HOURS {
-            self.settled[hour.0]
-        } else {
-            None
-        }
+        self.settled.get(hour.0).copied().flatten()
     }
 }

@@ -1,4 +1,4 @@
 mod Wide
-mod Running
+mod Summed
 mod Paid
 pub mod Exact

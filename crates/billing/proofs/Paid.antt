@@ -1,8 +1,9 @@
 -- What one imbalance and one activation are paid.
-use Rattle.std.proofs.Common.{◌≡◌, ℕ, ◌^◌, ◌<◌, Bool, true, false, cond, ℤ, pos, ◌-ℤ◌, ◌*ℤ◌, neg_ℤ, sym, refl, ap, ◌∙◌, arith, to_z, of_z}
+use Rattle.std.proofs.Common.{◌≡◌, ℕ, ◌^◌, ◌<◌, Bool, true, false, cond, ℤ, pos, ◌-ℤ◌, ◌*ℤ◌, neg_ℤ, Less, Equal, Greater, sym, refl, ap, ◌∙◌, arith, to_z, of_z}
 use lib.IntN.{zero-*ℤ, *ℤ_comm}
 use lib.Signed.{lt_z}
 use mir.Syntax.{w128}
+use Rattle.std.specs.Ordering.{int_cmp, is_lt}
 use Rattle.std.proofs.lemmas.Int.{ints}
 use Rattle.std.proofs.lemmas.Bool.{cond-true, cond-false}
 use Rattle.units.specs.declared.Price.{Price}
@@ -32,6 +33,14 @@ only_paid u v w p q = omega (arith, ints)
 by_test : (b : Bool) (x s t : ℤ) → x *ℤ cond b t s ≡ (cond b (pos 0) x *ℤ s) -ℤ (cond b (neg_ℤ x) (pos 0) *ℤ t)
 by_test true x s t = only_charged (pos 0 *ℤ s) (neg_ℤ x *ℤ t) (x *ℤ t) (zero-*ℤ s) (neg_mul x t)
 by_test false x s t = only_paid (x *ℤ s) (pos 0 *ℤ t) (x *ℤ s) refl (zero-*ℤ t)
+
+lesser : (b c : Bool) → is_lt (cond b Less (cond c Greater Equal)) ≡ b
+lesser true c = refl
+lesser false true = refl
+lesser false false = refl
+
+pub lower : (x y : ℤ) → is_lt (int_cmp x y) ≡ lt_z x y
+lower x y = lesser (lt_z x y) (lt_z y x)
 
 pub priced_is : (pair : PricePair) (x y : ℤ) → y ≡ cond (lt_z x (pos 0)) pair.shortfall.0 pair.surplus.0 → x *ℤ y ≡ priced pair x
 unfolding priced

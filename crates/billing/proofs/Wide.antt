@@ -3,6 +3,8 @@ use Rattle.std.proofs.Common.{◌≡◌, ℕ, ◌+◌, ◌*◌, ◌^◌, ◌<◌
 use mir.Syntax.{w128}
 use Rattle.std.proofs.lemmas.Int.{ints, to_z-of_z}
 use Rattle.integers.specs.Near.{Near}
+use Rattle.integers.specs.Sums.{sum_to}
+use Rattle.integers.proofs.Sums.{sum_to-more}
 use Rattle.integers.proofs.Distances.{near_zero, near_neg, near_add, near_sub, near_mul, near_weaker}
 
 pub near64 : (z : ℤ) → SFits w64 z → Near (2 ^ 63) z
@@ -70,6 +72,14 @@ module _ (n : ℕ) (t a x : ℤ) (sum : Near (n * 2 ^ 63) t) (more : Reads (2 ^ 
 
   pub total_is : to_z w128 (of_z w128 (t +ℤ to_z w128 (of_z w128 a))) ≡ t +ℤ x
   total_is = (back _ _ _ few total).is
+
+  pub total_near : Near ((n + 1) * 2 ^ 63) (to_z w128 (of_z w128 (t +ℤ to_z w128 (of_z w128 a))))
+  total_near =
+      let near = reads_near _ _ _ (back _ _ _ few total) in
+      record { low = omega (arith, ints, near.low); high = omega (arith, ints, near.high) }
+
+  pub total_more : (f : ℕ → ℤ) → t ≡ sum_to n f → x ≡ f n → to_z w128 (of_z w128 (t +ℤ to_z w128 (of_z w128 a))) ≡ sum_to (n + 1) f
+  total_more f before last = total_is ∙ ap (λ z. z +ℤ x) before ∙ ap (λ z. sum_to n f +ℤ z) last ∙ sym (sum_to-more n f)
 
 -- a less b of 64 bits, as it is read back
 module _ (a b x y : ℤ) (of-a : Reads (2 ^ 63) a x) (of-b : Reads (2 ^ 63) b y) where

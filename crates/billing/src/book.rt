@@ -9,6 +9,7 @@ use units::{KilowattHours, Party, Position};
 // One party's figures of the hour.
 #[derive(Clone, Copy)]
 pub struct Metered {
+    pub party: Party,
     pub plan: KilowattHours,
     pub produced: KilowattHours,
     pub consumed: KilowattHours,

@@ -7,9 +7,8 @@ ghost use Rattle.billing.specs.Booked.{hour_in, of_party, Booked};
 
 use crate::book::{HourBook, Metered};
 use crate::narrow::narrowed;
-use crate::payments::{payment, priced};
+use crate::payments::{Terms, priced};
 use market::{Activation, Portfolio};
-use pricing::{Facts, Prices};
 use units::{Mills, Party};
 
 impl HourBook<'_> {
@@ -21,34 +20,26 @@ impl HourBook<'_> {
     }
 
     // What the party's activations of the hour are paid, less what they are charged.
-    pub fn regulation_to(&self, minutes: u8, facts: &Facts, party: Party) -> i128
-        ensures value { (metered : Metered) → result ≡ regulation_to minutes facts.now (hour_in self.now metered) party.0 }
+    pub fn regulation_to(&self, terms: &Terms, party: Party) -> i128
+        ensures value { (metered : Metered) → result ≡ regulation_to terms.now.minutes terms.now.priced.facts (hour_in self.now metered) party.0 }
         ensures bound { Near (2 ^ 75) result }
     {
-        let mut total = 0i128;
-        for activation in self.register.as_slice() {
-            if self.is_of(party, activation) {
-                total += payment(minutes, facts, activation);
-            }
-        }
-        total
+        self.register
+            .as_slice()
+            .iter()
+            .filter(|activation| self.is_of(party, activation))
+            .map(|activation| terms.payment(activation))
+            .sum()
     }
 
     // The two imbalances priced, each alone, and the activations paid.
-    pub fn due(
-        &self,
-        minutes: u8,
-        facts: &Facts,
-        prices: &Prices,
-        metered: Metered,
-        party: Party,
-    ) -> Mills
-        ensures { Booked minutes facts.now prices.now (hour_in self.now metered) party.0 result.0 }
+    pub fn due(&self, terms: &Terms, metered: Metered) -> Mills
+        ensures { Booked terms.now.minutes terms.now.priced.facts terms.now.priced.prices (hour_in self.now metered) metered.party.0 result.0 }
     {
-        let production = self.imbalance(Portfolio::Production, metered, party);
-        let consumption = self.imbalance(Portfolio::ConsumptionAndTrade, metered, party);
-        let imbalances = priced(prices.production, production)
-            + priced(prices.consumption_and_trade, consumption);
-        Mills(narrowed(imbalances + self.regulation_to(minutes, facts, party)))
+        let production = self.imbalance(Portfolio::Production, metered);
+        let consumption = self.imbalance(Portfolio::ConsumptionAndTrade, metered);
+        let imbalances = priced(terms.priced.prices.production, production)
+            + priced(terms.priced.prices.consumption_and_trade, consumption);
+        Mills(narrowed(imbalances + self.regulation_to(terms, metered.party)))
     }
 }

@@ -8,3 +8,4 @@ pub mod payments;
 mod trade;
 
 pub use book::{HourBook, Metered};
+pub use payments::Terms;

@@ -5,7 +5,7 @@ ghost use Rattle.settlement.specs.Payments.{priced, payment, is_long};
 ghost use Rattle.billing.specs.Booked.{price_of};
 
 use market::{Activation, Direction, Kind};
-use pricing::{Facts, PricePair};
+use pricing::{PricePair, PricedHour};
 use units::{KilowattHours, Price};
 
 // A surplus is paid at its price, a shortfall charged at its own.
@@ -13,7 +13,7 @@ pub fn priced(pair: PricePair, imbalance: KilowattHours) -> i128
     ensures value { result ≡ priced pair imbalance.0 }
     ensures bound { Near (2 ^ 94) result }
 {
-    let price = if imbalance.0 < 0 {
+    let price = if imbalance < KilowattHours(0) {
         pair.shortfall
     } else {
         pair.surplus
@@ -21,29 +21,39 @@ pub fn priced(pair: PricePair, imbalance: KilowattHours) -> i128
     i128::from(imbalance.0) * i128::from(price.0)
 }
 
-// A listed activation of at least so many minutes has the price of its direction, a short or a special one its own.
-fn activation_price(minutes: u8, facts: &Facts, activation: &Activation) -> Price
-    ensures { result ≡ (if is_long minutes activation.now then price_of facts.now activation.now.direction else activation.now.price) }
-{
-    if activation.kind == Kind::Special || activation.minutes() < minutes {
-        return activation.price;
-    }
-    match activation.direction {
-        Direction::Up => facts.up_price,
-        Direction::Down => facts.down_price,
-    }
+// What an hour is settled on.
+#[derive(Clone, Copy)]
+pub struct Terms {
+    // How long an activation lasts to set a price.
+    pub minutes: u8,
+    pub priced: PricedHour,
 }
 
-// Upward energy is paid, downward energy charged.
-pub fn payment(minutes: u8, facts: &Facts, activation: &Activation) -> i128
-    ensures value { result ≡ payment minutes facts.now activation.now }
-    ensures bound { Near (2 ^ 66) result }
-{
-    let price = activation_price(minutes, facts, activation);
-    let energy = i128::from(activation.energy().0);
-    let signed = match activation.direction {
-        Direction::Up => energy,
-        Direction::Down => -energy,
-    };
-    signed * i128::from(price.0)
+impl Terms {
+    // A listed activation that lasts so long has the price of its direction, a short or a special one its own.
+    fn price_of(&self, activation: &Activation) -> Price
+        ensures { result ≡ (if is_long self.now.minutes activation.now then price_of self.now.priced.facts activation.now.direction else activation.now.price) }
+    {
+        if activation.kind == Kind::Special || activation.minutes() < self.minutes {
+            return activation.price;
+        }
+        match activation.direction {
+            Direction::Up => self.priced.facts.up_price,
+            Direction::Down => self.priced.facts.down_price,
+        }
+    }
+
+    // Upward energy is paid, downward energy charged.
+    pub fn payment(&self, activation: &Activation) -> i128
+        ensures value { result ≡ payment self.now.minutes self.now.priced.facts activation.now }
+        ensures bound { Near (2 ^ 66) result }
+    {
+        let price = self.price_of(activation);
+        let energy = i128::from(activation.energy().0);
+        let signed = match activation.direction {
+            Direction::Up => energy,
+            Direction::Down => -energy,
+        };
+        signed * i128::from(price.0)
+    }
 }

@@ -1,14 +1,12 @@
 -- What a book answers, from what the parts of it promise.
-use Rattle.std.proofs.Common.{◌≡◌, ℕ, ◌^◌, ◌≤◌, List, length, ℤ, pos, Option, unwrap_or, ap, ◌∙◌, arith}
+use Rattle.std.proofs.Common.{◌≡◌, ℕ, ◌^◌, ◌≤◌, List, length, ℤ, pos, Option, unwrap_or, ◌∙◌, arith}
 use mathlib.Core.Logic.{∥∥₁_elim}
 use lib.IntN.{ℤ_set}
 use Rattle.std.proofs.lemmas.Int.{ints}
 use Rattle.units.specs.declared.Position.{Position}
-use Rattle.units.specs.declared.Price.{Price}
-use Rattle.market.specs.declared.words.Bid.{Bid}
 use Rattle.market.specs.declared.words.Activation.{Activation}
 use Rattle.market.specs.declared.words.Portfolio.{Portfolio}
-use Rattle.market.specs.Figures.{price_setting_minutes, most_activations}
+use Rattle.market.specs.Figures.{most_activations}
 use Rattle.timetable.specs.declared.timetable.Timetable.{Timetable}
 use Rattle.timetable.specs.View.{times}
 use Rattle.positions.specs.declared.record.Meter.TheVariants.{Production, Consumption}
@@ -17,13 +15,11 @@ use Rattle.positions.specs.Tables.{plans_of, readings_of}
 use Rattle.notices.specs.declared.table.NoticeTable.{NoticeTable}
 use Rattle.notices.specs.Kept.{kept}
 use Rattle.ladder.specs.declared.ladder.Ladder.{Ladder}
-use Rattle.ladder.specs.Ladder.{view}
 use Rattle.register.specs.declared.register.Register.{Register}
 use Rattle.register.specs.Registered.{registered}
 use Rattle.register.specs.Totals.{Few}
 use Rattle.pricing.specs.declared.Facts.{Facts}
 use Rattle.pricing.specs.declared.Prices.{Prices}
-use Rattle.facts.specs.Facts.{facts_of}
 use Rattle.integers.specs.Near.{Near}
 use Rattle.settlement.specs.Bounds.{HourFits, PricesFit}
 use Rattle.settlement.specs.Hour.{imbalance}
@@ -33,22 +29,13 @@ use Rattle.billing.specs.declared.book.Metered.{Metered}
 use Rattle.billing.specs.Capped.{Held}
 use Rattle.billing.specs.Booked.{hour_for, Booked}
 use Rattle.billing.proofs.Exact.{own_imbalance, own_due, own_fits}
-use Rattle.journal.specs.Figures.{Stage, Planned, hour_at, facts_at}
+use Rattle.journal.specs.Figures.{Stage, Planned, hour_at}
 use Rattle.journal.proofs.Fits.{hour_fits}
 use Rattle.book.specs.Parts.{figures_of, Sound}
 use Rattle.book.proofs.Through.{kept_of, unsettled}
 
 pub few : (xs : List Activation) → length xs ≤ most_activations → Few xs
 few xs h = omega (arith, h)
-
-pub facts_shown : (stage : Stage) (prices : ℕ → Option Prices) (t : Timetable) (p : PositionTable) (n : NoticeTable) (l : Ladder) (r : Register) (hour : Position) (facts : Facts) (spot : Price) (xs : List Activation) (ups downs : List Bid)
-    → facts ≡ facts_of price_setting_minutes spot hour xs ups downs → spot ≡ (times t).opening.spot hour.0 → xs ≡ registered r → ups ≡ (view l).up → downs ≡ (view l).down → facts ≡ facts_at (figures_of stage prices t p n l r) hour.0
-unfolding facts_at
-facts_shown stage prices t p n l r hour facts spot xs ups downs e is-spot is-xs is-ups is-downs =
-    e ∙ ap (λ x. facts_of price_setting_minutes x hour xs ups downs) is-spot
-    ∙ ap (λ x. facts_of price_setting_minutes ((times t).opening.spot hour.0) hour x ups downs) is-xs
-    ∙ ap (λ x. facts_of price_setting_minutes ((times t).opening.spot hour.0) hour (registered r) x downs) is-ups
-    ∙ ap (λ x. facts_of price_setting_minutes ((times t).opening.spot hour.0) hour (registered r) (view l).up x) is-downs
 
 module _ (t : Timetable) (p : PositionTable) (n : NoticeTable) (l : Ladder) (r : Register) (hour : Position) (q : ℕ) (m : Metered)
     (is-plan : m.plan.0 ≡ plans_of p hour.0 q) (is-produced : m.produced.0 ≡ unwrap_or (readings_of Production p hour.0 q) (pos 0)) (is-consumed : m.consumed.0 ≡ unwrap_or (readings_of Consumption p hour.0 q) (pos 0)) where
@@ -76,8 +63,8 @@ module _ (t : Timetable) (p : PositionTable) (n : NoticeTable) (l : Ladder) (r :
       ∙ own_imbalance hour (times t).parties plans produced consumed (kept n) (registered r) q m is-plan is-produced is-consumed portfolio)
 
   -- what is due to the party, at prices that fit
-  pub due_shown : (facts : Facts) (prices : Prices) (x : ℤ) → Booked price_setting_minutes facts prices (hour_for hour (times t).parties m (kept n) (registered r)) q x → Sound t p n l r → PricesFit facts prices
-      → (x ≡ due_to price_setting_minutes facts prices (hour_at (figures_of Planned unsettled t p n l r) hour.0) q) × Near (2 ^ 48) x
+  pub due_shown : (minutes : ℕ) (facts : Facts) (prices : Prices) (x : ℤ) → Booked minutes facts prices (hour_for hour (times t).parties m (kept n) (registered r)) q x → Sound t p n l r → PricesFit facts prices
+      → (x ≡ due_to minutes facts prices (hour_at (figures_of Planned unsettled t p n l r) hour.0) q) × Near (2 ^ 48) x
   unfolding plans produced consumed
-  due_shown facts prices x booked s known =
-      (booked.accepted (fits s) known ∙ own_due hour (times t).parties plans produced consumed (kept n) (registered r) q m is-plan is-produced is-consumed price_setting_minutes facts prices, booked.small (fits s) known)
+  due_shown minutes facts prices x booked s known =
+      (booked.accepted (fits s) known ∙ own_due hour (times t).parties plans produced consumed (kept n) (registered r) q m is-plan is-produced is-consumed minutes facts prices, booked.small (fits s) known)

@@ -1,16 +1,11 @@
 -- A book just opened.
-use Rattle.std.proofs.Common.{◌≡◌, ℕ, zero, suc, ◌<◌, ◌≤◌, true, List, [], ◌∷◌, length, ℤ, pos, Some, None, vec_items, Option, unwrap_or, sym, refl, ap, ◌∙◌, subst, arith}
+use Rattle.std.proofs.Common.{◌≡◌, ℕ, List, [], ℤ, pos, Some, None, Option, unwrap_or, sym, refl, ap, ◌∙◌, subst, arith}
 use Rattle.std.proofs.lemmas.Int.{ints}
-use Rattle.std.proofs.lemmas.Bool.{and_parts}
-use Rattle.units.specs.declared.Price.{Price}
-use Rattle.market.specs.Figures.{price_limit, reading_limit}
-use Rattle.calendar.specs.Clock.{hours_of}
-use Rattle.calendar.proofs.DayTests.{hours_most}
+use Rattle.market.specs.Figures.{reading_limit}
 use Rattle.timetable.specs.declared.timetable.Timetable.{Timetable}
-use Rattle.timetable.specs.Opening.{Times, Opening, opened_by, spot_of}
-use Rattle.timetable.specs.Prices.{each_within, within_limit}
+use Rattle.timetable.specs.Opening.{Times, Opening, opened_by}
 use Rattle.timetable.specs.View.{times}
-use Rattle.timetable.proofs.Days.{within_fact}
+use Rattle.timetable.proofs.Bounded.{bounded}
 use Rattle.positions.specs.declared.record.Meter.TheVariants.{Production, Consumption}
 use Rattle.positions.specs.declared.table.PositionTable.{PositionTable}
 use Rattle.positions.specs.Tables.{plans_of, readings_of, Empty}
@@ -24,25 +19,15 @@ use Rattle.market.specs.declared.words.Activation.{Activation}
 use Rattle.refusal.specs.declared.Refusal.{Refusal}
 use Rattle.register.specs.declared.register.Register.{Register}
 use Rattle.register.specs.Registered.{registered}
-use Rattle.pricing.specs.Policies.{Within}
 use Rattle.settlement.specs.Bounds.{FromZero}
 use Rattle.journal.specs.Figures.{Planned, Figures, opened}
 use Rattle.journal.specs.Lawful.{LawfulOpening}
 use Rattle.journal.specs.Kept.{BidSound, Energies, Trades}
 use Rattle.book.specs.Parts.{figures_of, Sound}
 
-each_at : (ps : List Price) (h : ℕ) → each_within ps ≡ true → h < length ps → Within price_limit (spot_of ps h)
-each_at [] h e l = absurd (omega arith)
-each_at (p ∷ ps) zero e l = let w = within_fact p (and_parts (within_limit p) (each_within ps) e).0 in record { low = w.low; high = w.high }
-each_at (p ∷ ps) (suc h) e l = each_at ps h (and_parts (within_limit p) (each_within ps) e).1 (omega arith)
-
 -- what any timetable was opened with is lawful
-few : (n m : ℕ) → (0 < n → n ≡ m) → m ≤ 25 → n ≤ 25
-few zero m h l = omega arith
-few (suc n) m h l = let e = h (omega arith) in omega (arith, e, l)
-
 pub lawful_opening : (t : Timetable) → LawfulOpening (times t).opening
-lawful_opening t = record { few_hours = few (length (vec_items t.spot)) (hours_of t.date) t.hours (hours_most t.date); spots = λ h l. each_at (vec_items t.spot) h t.prices l }
+lawful_opening t = let b = bounded t in record { few_hours = b.hours_most; spots = λ h _. let w = b.spot_within h in record { low = w.low; high = w.high } }
 
 nothing : (n : ℕ) (x : ℤ) → x ≡ pos 0 → FromZero n x
 nothing n x e = record { low = omega (arith, ints, e); high = omega (arith, ints, e) }

@@ -32,9 +32,21 @@ module _ (stage : Stage) (t : Timetable) (p : PositionTable) (n : NoticeTable) (
   pub sound_of : (settled : ℕ → Option Prices) → Kept (figures_of stage settled t p n l r) → Sound t p n l r
   sound_of settled k = record { terms = k.terms; energies = k.energies; trades = k.trades }
 
--- what a call at a stage of the day leaves sound
-module _ (t t' : Timetable) (p p' : PositionTable) (n n' : NoticeTable) (l l' : Ladder) (r r' : Register) (old : ∥ Sound t p n l r ∥₁) where
+module _ {t t' : Timetable} {p p' : PositionTable} {n n' : NoticeTable} {l l' : Ladder} {r r' : Register} (old : ∥ Sound t p n l r ∥₁) where
+  -- what a call at a stage of the day leaves sound
   pub still_sound : {X : Type 0} (stage : Stage) (row : Option Refusal) (entry : X → Entry) (result : Result X Refusal)
       → ((x : X) → InStage (entry x) stage) → Called row entry result (figures_of stage unsettled t p n l r) (figures_of stage unsettled t' p' n' l' r') → ∥ Sound t' p' n' l' r' ∥₁
   still_sound stage row entry result at called =
       ∥∥₁_map old (λ s. sound_of stage t' p' n' l' r' unsettled (through row entry result (figures_of stage unsettled t p n l r) (figures_of stage unsettled t' p' n' l' r') at called (kept_of stage t p n l r s)))
+
+-- what a call comes to in every view of the parts before it and after it, and what it leaves sound
+pub record Turned (X : Type 0) (refused : Figures → Option Refusal) (entry : X → Entry) (result : Result X Refusal) (t t' : Timetable) (p p' : PositionTable) (n n' : NoticeTable) (l l' : Ladder) (r r' : Register) : Type 0 where
+  pub called : (stage : Stage) (settled : ℕ → Option Prices) → Called (refused (figures_of stage settled t p n l r)) entry result (figures_of stage settled t p n l r) (figures_of stage settled t' p' n' l' r')
+  pub sound : ∥ Sound t' p' n' l' r' ∥₁
+
+pub turned : {X : Type 0} {refused : Figures → Option Refusal} {entry : X → Entry} {result : Result X Refusal} {t t' : Timetable} {p p' : PositionTable} {n n' : NoticeTable} {l l' : Ladder} {r r' : Register}
+    → ∥ Sound t p n l r ∥₁ → (stage : Stage) → ((x : X) → InStage (entry x) stage)
+    → ((stage : Stage) (settled : ℕ → Option Prices) → Called (refused (figures_of stage settled t p n l r)) entry result (figures_of stage settled t p n l r) (figures_of stage settled t' p' n' l' r'))
+    → Turned X refused entry result t t' p p' n n' l l' r r'
+turned {X} {refused} {entry} {result} {t} {t'} {p} {p'} {n} {n'} {l} {l'} {r} {r'} old stage at called =
+    record { called = called; sound = still_sound old stage (refused (figures_of stage unsettled t p n l r)) entry result at (called stage unsettled) }

@@ -47,6 +47,10 @@ module _ (date : Date) (c : Covered date) (k : ℕ) (first : 1 ≤ k) (last : k 
       at_change : date.month ≡ k → date.day ≡ last_sunday date.year k → day_of date ≡ day_number date.year k (last_sunday date.year k)
       at_change e f = ap (λ m. day_number date.year m date.day) e ∙ ap (day_number date.year k) f
 
+-- a date on which the clock is not changed
+on_neither : (date : Date) → Covered date → (day_of date ≡ march_change date.year → ⊥) → (day_of date ≡ october_change date.year → ⊥) → 24 ≡ hours_of date
+on_neither date c a b = ordinary date (covered_from date c) (falls_off date c 3 (omega arith) (omega arith) a) (falls_off date c 10 (omega arith) (omega arith) b)
+
 to_kind : (d m o : ℕ) {h s h' s' : ℕ} → h' ≡ h → s ≡ s' → Kind d m o h' s' → Kind d m o h s
 to_kind d m o {h} {s} {h'} {s'} e f k = subst (λ x. Kind d m o x s) e (subst (λ x. Kind d m o h' x) (sym f) k)
 
@@ -60,13 +64,13 @@ kind_of date c =
     ⊎_elim
     (λ e. to_kind d m o (on_march date cov (falls_on date c 3 (omega arith) (omega arith) e)) (start_early date (omega arith)) (march e))
     (⊎_elim
-    (λ h. to_kind d m o (ordinary date cov (falls_off date c 3 (omega arith) (omega arith) (λ e. omega arith)) (falls_off date c 10 (omega arith) (omega arith) (λ e. omega arith))) (start_early date (omega arith)) (early h))
+    (λ h. to_kind d m o (on_neither date c (λ e. omega arith) (λ e. omega arith)) (start_early date (omega arith)) (early h))
     (λ h.
     ⊎_elim
     (λ e. to_kind d m o (on_october date cov (falls_off date c 3 (omega arith) (omega arith) (λ f. omega arith)) (falls_on date c 10 (omega arith) (omega arith) e)) (start_summer date (omega arith) (omega arith)) (october e))
     (⊎_elim
-    (λ k. to_kind d m o (ordinary date cov (falls_off date c 3 (omega arith) (omega arith) (λ e. omega arith)) (falls_off date c 10 (omega arith) (omega arith) (λ e. omega arith))) (start_summer date h (omega arith)) (summer h k))
-    (λ k. to_kind d m o (ordinary date cov (falls_off date c 3 (omega arith) (omega arith) (λ e. omega arith)) (falls_off date c 10 (omega arith) (omega arith) (λ e. omega arith))) (start_late date k) (late k)))
+    (λ k. to_kind d m o (on_neither date c (λ e. omega arith) (λ e. omega arith)) (start_summer date h (omega arith)) (summer h k))
+    (λ k. to_kind d m o (on_neither date c (λ e. omega arith) (λ e. omega arith)) (start_late date k) (late k)))
     (cases_order d o)))
     (cases_order d m)
 

@@ -1,6 +1,7 @@
 -- What the tests of a date say: whether it is covered, whether it is a last Sunday, and so how many hours it has.
-use Rattle.std.proofs.Common.{◌≡◌, ℕ, ◌+◌, ◌-◌, ◌<◌, ◌≤◌, true, false, sym, subst, ⊎_elim, arith, lit≤}
-use Rattle.std.proofs.lemmas.Bool.{cases_Bool, cases_order, both_ways, and_parts, and_from, leb-true, le-leb, eqb-true, eq-eqb, ne_eqb, and_left, cond_both}
+use Rattle.std.proofs.Common.{◌≡◌, ℕ, ◌+◌, ◌-◌, ◌<◌, ◌≤◌, Bool, true, false, cond, ◌⊎◌, ◌==◌, sym, subst, ⊎_elim, arith, lit≤}
+use Rattle.std.proofs.lemmas.Bool.{cases_Bool, cases_order, both_ways, and_parts, and_from, leb-true, le-leb, eqb-true, eq-eqb, ne_eqb, and_left}
+use Rattle.std.proofs.lemmas.Bool.Decides.{nat_tests}
 use Rattle.calendar.specs.declared.Date.{Date}
 use Rattle.calendar.specs.Dates.{leap_year, month_days, days_to_year, days_to_month, LastSunday, Covered}
 use Rattle.calendar.specs.Clock.{last_sunday, covered, on_last_sunday, hours_of, DayHours}
@@ -48,6 +49,13 @@ pub on_last_from : (m : ℕ) (date : Date) → 1 ≤ m → m ≤ 12 → date.mon
 on_last_from m date first last e l =
     and_from _ _ (eq-eqb _ _ e) (eq-eqb _ _ (last_sunday_only date.year m first last date.day l))
 
+-- whether a date in month m is its last Sunday
+pub last_of : (m : ℕ) (date : Date) {b : Bool} → date.month ≡ m → b ≡ (date.day == last_sunday date.year date.month) → on_last_sunday m date ≡ b
+last_of m date e l = rw (eq-eqb _ _ e) (rw e at (sym l))
+
+pub other_month : (m : ℕ) (date : Date) → (date.month ≡ m → ⊥) → on_last_sunday m date ≡ false
+other_month m date n = and_left _ _ (ne_eqb date.month m n)
+
 -- the hours by what the tests answered
 pub none : (date : Date) → covered date ≡ false → 0 ≡ hours_of date
 unfolding hours_of
@@ -65,25 +73,39 @@ pub ordinary : (date : Date) → covered date ≡ true → on_last_sunday 3 date
 unfolding hours_of
 ordinary date c m o = simp (c, m, o)
 
-pub hours_rule : (date : Date) → DayHours date (hours_of date)
+hours_rule : (date : Date) → DayHours date (hours_of date)
 hours_rule date =
     record {
       outside = λ n. ⊎_elim (λ c. absurd (n (covered_yes date c))) (λ c. sym (none date c)) (cases_Bool (covered date));
       march = λ c m l. sym (on_march date (covered_from date c) (on_last_from 3 date (lit≤ tt) (lit≤ tt) m l));
       october =
           λ c m l.
-          sym (on_october date (covered_from date c) (ne_and m) (on_last_from 10 date (lit≤ tt) (lit≤ tt) m l));
+          sym
+          (on_october date (covered_from date c) (other_month 3 date (λ e. omega arith)) (on_last_from 10 date (lit≤ tt) (lit≤ tt) m l));
       other =
           λ c m o.
           sym
           (ordinary date (covered_from date c) (⊎_elim (λ e. let a = on_last_yes 3 date (lit≤ tt) (lit≤ tt) e in absurd (m a.0 a.1)) (λ e. e) (cases_Bool (on_last_sunday 3 date))) (⊎_elim (λ e. let a = on_last_yes 10 date (lit≤ tt) (lit≤ tt) e in absurd (o a.0 a.1)) (λ e. e) (cases_Bool (on_last_sunday 10 date))));
     }
-  where
-    ne_and : date.month ≡ 10 → on_last_sunday 3 date ≡ false
-    ne_and e = and_left _ _ (ne_eqb date.month 3 (λ f. omega arith))
+
+pub ruled : (date : Date) (h : ℕ) → h ≡ hours_of date → DayHours date h
+ruled date h e = rw e (hours_rule date)
+
+pub with_hours : (date : Date) → 0 < hours_of date → covered date ≡ true
+with_hours date h = ⊎_elim (λ c. c) (λ c. absurd (omega (arith, none date c))) (cases_Bool (covered date))
 
 pub has_hours : (date : Date) → 0 < hours_of date → Covered date
-has_hours date h = ⊎_elim (covered_yes date) (λ c. absurd (omega (arith, none date c))) (cases_Bool (covered date))
+has_hours date h = covered_yes date (with_hours date h)
+
+some_by : (march october : Bool) → 0 < cond march 23 (cond october 25 24)
+some_by march october = grind (arith, nat_tests)
+
+pub some_hours : (date : Date) → covered date ≡ true → 0 < hours_of date
+unfolding hours_of
+some_hours date c = rw c (some_by (on_last_sunday 3 date) (on_last_sunday 10 date))
+
+-- the hours of a covered date, by its month and by whether it is a last Sunday
+pub ruleset hours_by_kind = (last_of, other_month, with_hours, on_march, on_october, ordinary)
 
 -- the numbers of a date that has hours
 pub record Bounds (date : Date) : Type 0 where
@@ -94,12 +116,23 @@ pub record Bounds (date : Date) : Type 0 where
   pub first_day : 1 ≤ date.day
   pub last_day : date.day ≤ 31
 
-pub bounds : (date : Date) → Covered date → Bounds date
-bounds date c =
+pub bounds : (date : Date) → 0 < hours_of date → Bounds date
+bounds date h =
+    let c = has_hours date h in
     let most = month_most (leap_year date.year) date.month in
     let month = is_month (leap_year date.year) date.month date.day c.first c.within in
     omega arith
 
-pub hours_most : (date : Date) → hours_of date ≤ 25
+-- a day has 23, 24 or 25 hours, or none
+abbrev pub Length : ℕ → Type 0
+Length h = (h ≡ 0) ⊎ ((h ≡ 23) ⊎ ((h ≡ 24) ⊎ (h ≡ 25)))
+
+length_by : (has march october : Bool) → Length (cond has (cond march 23 (cond october 25 24)) 0)
+length_by has march october = grind (arith, nat_tests)
+
+pub length_of : (date : Date) → Length (hours_of date)
 unfolding hours_of
-hours_most date = cond_both (covered date) _ _ (λ h. h ≤ 25) (λ _. cond_both (on_last_sunday 3 date) _ _ (λ h. h ≤ 25) (λ _. lit≤ tt) (λ _. cond_both (on_last_sunday 10 date) _ _ (λ h. h ≤ 25) (λ _. lit≤ tt) (λ _. lit≤ tt))) (λ _. lit≤ tt)
+length_of date = length_by (covered date) (on_last_sunday 3 date) (on_last_sunday 10 date)
+
+pub hours_most : (date : Date) → hours_of date ≤ 25
+hours_most date = omega (arith, length_of date)

@@ -1,15 +1,14 @@
 -- The stamps of a day's positions: what the clock shows, there and back, and the marks.
-use Rattle.std.proofs.Common.{◌≡◌, ℕ, ◌+◌, ◌*◌, ◌<◌, ◌⊎◌, pos, ◌+ℤ◌, ◌-ℤ◌, Some, refl, ap, inl, inr, arith}
+use Rattle.std.proofs.Common.{◌≡◌, ℕ, ◌+◌, ◌*◌, ◌<◌, pos, ◌+ℤ◌, ◌-ℤ◌, Some, ap, arith}
 use Rattle.std.proofs.lemmas.Int.{ints}
-use Rattle.std.proofs.lemmas.Bool.{cond_both}
 use Rattle.std.proofs.lemmas.Bool.Decides.{nat_tests}
 use Rattle.calendar.specs.declared.Date.{Date}
 use Rattle.calendar.specs.declared.Mark.{Mark}
 use Rattle.calendar.specs.declared.Mark.TheVariants.{Unmarked, A, B}
 use Rattle.calendar.specs.Dates.{day_of}
-use Rattle.calendar.specs.Clock.{covered, on_last_sunday, march_change, october_change, hours_of, start_ahead, ahead_in}
+use Rattle.calendar.specs.Clock.{march_change, october_change, hours_of, start_ahead, ahead_in}
 use Rattle.calendar.specs.Stamps.{stamp_of, position_of, ThereAndBack, ClockShows, Marked}
-use Rattle.calendar.proofs.DayTests.{has_hours}
+use Rattle.calendar.proofs.DayTests.{has_hours, Length, length_of}
 use Rattle.calendar.proofs.ClockLaw.{Kind, early, march, summer, october, late, kind_of, ahead_law}
 
 shows_by : (d m o h s p : ℕ) → Kind d m o h s → p < h → ((pos (1440 * d) -ℤ pos s) +ℤ pos (60 * p)) +ℤ pos (ahead_in h s p) ≡ pos (1440 * d + 60 * (stamp_of h p).0)
@@ -25,17 +24,6 @@ shows_law date p h =
       ahead = ahead_law date p h;
       shows = shows_by (day_of date) (march_change date.year) (october_change date.year) (hours_of date) (start_ahead date) p (kind_of date (has_hours date (omega arith))) h;
     }
-
--- a day has 23, 24 or 25 hours, or none
-abbrev Length : ℕ → Type 0
-Length h = (h ≡ 0) ⊎ ((h ≡ 23) ⊎ ((h ≡ 24) ⊎ (h ≡ 25)))
-
-length_of : (date : Date) → Length (hours_of date)
-unfolding hours_of
-length_of date =
-    cond_both (covered date) _ _ Length
-    (λ _. cond_both (on_last_sunday 3 date) _ _ Length (λ _. inr (inl refl)) (λ _. cond_both (on_last_sunday 10 date) _ _ Length (λ _. inr (inr (inr refl))) (λ _. inr (inr (inl refl)))))
-    (λ _. inl refl)
 
 module _ (h : ℕ) (l : Length h) where
   back : (p : ℕ) → p < h → position_of h (stamp_of h p).0 (stamp_of h p).1 ≡ Some p

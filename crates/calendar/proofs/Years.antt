@@ -5,7 +5,7 @@ use Rattle.calendar.specs.declared.Date.{Date}
 use Rattle.calendar.specs.Dates.{leap_year, year_days, month_length, days_to_year, days_to_month, day_of, Covered}
 use Rattle.calendar.specs.Clock.{march_change, october_change}
 use Rattle.calendar.proofs.Months.{to_month_more, to_year_more}
-use Rattle.calendar.proofs.DayTests.{bounds, last_sunday_is}
+use Rattle.calendar.proofs.DayTests.{covered_from, some_hours, bounds, last_sunday_is}
 
 months_later : (b : Bool) (m k : ℕ) → days_to_month b m ≤ days_to_month b (m + k)
 unfolding days_to_month
@@ -70,7 +70,7 @@ year_gap y z from h =
 -- a date lies in its year
 pub in_year : (date : Date) → Covered date → (days_to_year (date.year - 2000) ≤ day_of date) × (day_of date < days_to_year (date.year + 1 - 2000))
 in_year date c =
-    let k = bounds date c in
+    let k = bounds date (some_hours date (covered_from date c)) in
     let more = to_year_more date.year c.from in
     let month = to_month_more (leap_year date.year) date.month in
     let rise = months_rise (leap_year date.year) (date.month + 1) 13 (omega arith) in

@@ -3,6 +3,8 @@
 
 mod counting;
 mod days;
+mod kinds;
+mod printed;
 mod stamps;
 mod worked;
 
@@ -18,7 +20,7 @@ pub struct Date {
 }
 
 // Minutes from 2000-01-01 00:00 UTC.
-#[derive(Clone, Copy, PartialEq, Eq, Debug)]
+#[derive(Clone, Copy, PartialEq, Eq, PartialOrd, Ord, Debug)]
 pub struct Instant(pub i64);
 
 // Tells apart the two hours of one number that the October day has.
@@ -36,15 +38,6 @@ const LAST_YEAR: u32 = 2099;
 const MARCH: u32 = 3;
 
 const OCTOBER: u32 = 10;
-
-const MARCH_HOURS: usize = 23;
-
-const OCTOBER_HOURS: usize = 25;
-
-const OTHER_HOURS: usize = 24;
-
-// The hour that the March day leaves out and the October day has twice.
-const CHANGED_HOUR: usize = 2;
 
 // Minutes that the local clock is ahead of UTC.
 const WINTER_TIME: u32 = 60;

@@ -12,35 +12,22 @@ const DASH: u8 = b'-';
 fn two_digits(tens: u8, ones: u8) -> Option<u32>
     ensures { MatchOption result ((n : ℕ) → TwoDigits n tens ones → ⊥) (λ n. TwoDigits n tens ones) }
 {
-    if !tens.is_ascii_digit() || !ones.is_ascii_digit() {
-        return None;
-    }
-    Some(10 * u32::from(tens - b'0') + u32::from(ones - b'0'))
+    Some(10 * char::from(tens).to_digit(10)? + char::from(ones).to_digit(10)?)
 }
 
 // The date whose text this is, covered or not; None where it is no date's.
 pub fn parse_date(text: &str) -> Option<Date>
     ensures { MatchOption result ((date : TheDate) → DateText date text.now → ⊥) (λ date. DateText date text.now) }
 {
-    let bytes = text.as_bytes();
-    if bytes.len() != 10 || bytes[4] != DASH || bytes[7] != DASH {
-        return None;
-    }
-    let Some(century) = two_digits(bytes[0], bytes[1]) else {
+    // A text of another form has no date: the pattern's `else`, which no `?` can say.
+    let &[c1, c2, y1, y2, DASH, m1, m2, DASH, d1, d2] = text.as_bytes() else {
         return None;
     };
-    let Some(of_century) = two_digits(bytes[2], bytes[3]) else {
-        return None;
-    };
-    let Some(month) = two_digits(bytes[5], bytes[6]) else {
-        return None;
-    };
-    let Some(day) = two_digits(bytes[8], bytes[9]) else {
-        return None;
-    };
+    let century = two_digits(c1, c2)?;
+    let of_century = two_digits(y1, y2)?;
     Some(Date {
         year: 100 * century + of_century,
-        month,
-        day,
+        month: two_digits(m1, m2)?,
+        day: two_digits(d1, d2)?,
     })
 }

@@ -13,8 +13,9 @@ use Rattle.accounts.specs.Booked as booking
 use Rattle.positions.specs.declared.record.Meter.{Meter}
 use Rattle.positions.specs.declared.record.Meter.TheVariants.{Production, Consumption}
 use Rattle.pricing.specs.declared.Facts.{Facts}
+use Rattle.pricing.specs.declared.PricedHour.{PricedHour}
 use Rattle.pricing.specs.declared.Prices.{Prices}
-use Rattle.pricing.specs.Policies.{ShowsRules, Bounded}
+use Rattle.pricing.specs.Policies.{ShowsRules, priced_by}
 use Rattle.integers.specs.Near.{Near}
 use Rattle.integers.specs.Places.{at}
 use Rattle.integers.specs.Sums.{sum_to}
@@ -46,7 +47,7 @@ sum_after : (booking : Booking) (e : Entry) (f : Figures) → Kept f → Lawful 
 sum_after booking e f k l = ap (λ o. sum_to o.hours (settled_at booking (after e f))) (same_opening e f l) ∙ step booking e f k l
 
 -- a day just finished
-pub finished : (b : Book) (a : Accounts) → Opened a → ∥ Reckoned b a ∥₁
+pub finished : (b : Book) (a : Accounts) → Opened a → ∥ Reckoned (metered_of b a) a ∥₁
 finished b a new =
     ∥∥₁_map b.sound (λ s.
     let f : Figures = metered_of b a in
@@ -66,15 +67,10 @@ read_parties : (h p : ℕ) (meter : Meter) (x : ℤ) (f : Figures) → (after (R
 read_parties h p Production x f = refl
 read_parties h p Consumption x f = refl
 
-record Sums (f : Figures) (a : Accounts) : Type 0 where
-  kept : Kept f
-  amounts : (p : ℕ) → amounts_of a p ≡ cond (ltb p f.parties) (account_at f p) (pos 0)
-  operator : operator_of a ≡ operator_at f
-
 plus_none : (x y z : ℤ) → z ≡ y +ℤ pos 0 → x ≡ y → x ≡ z
 plus_none x y z e d = omega (arith, ints, e, d)
 
-read_sums : (f : Figures) (a : Accounts) (h p : ℕ) (meter : Meter) (x : ℤ) → Lawful (Reading h p meter x) f → Sums f a → Sums (after (Reading h p meter x) f) a
+read_sums : (f : Figures) (a : Accounts) (h p : ℕ) (meter : Meter) (x : ℤ) → Lawful (Reading h p meter x) f → Reckoned f a → Reckoned (after (Reading h p meter x) f) a
 read_sums f a h p meter x l s =
     let e : Entry = Reading h p meter x in
     let g : Figures = after e f in
@@ -87,13 +83,13 @@ read_sums f a h p meter x l s =
       operator = plus_none (operator_of a) (operator_at f) (operator_at g) (sum_after taken e f s.kept l) s.operator;
     }
 
-pub read_reckoned : (b d : Book) (a : Accounts) (row : Option Refusal) (r : Result Unit Refusal) (h p : ℕ) (meter : Meter) (x : ℤ) → Made row (λ _. Reading h p meter x) r (metered_of b a) (metered_of d a) → ∥ Reckoned b a ∥₁ → ∥ Reckoned d a ∥₁
+pub read_reckoned : (b d : Book) (a : Accounts) (row : Option Refusal) (r : Result Unit Refusal) (h p : ℕ) (meter : Meter) (x : ℤ) → Made row (λ _. Reading h p meter x) r (metered_of b a) (metered_of d a) → ∥ Reckoned (metered_of b a) a ∥₁ → ∥ Reckoned (metered_of d a) a ∥₁
 read_reckoned b d a row r h p meter x made old =
-    ∥∥₁_map old (λ s. let t = by row r made (record { kept = s.kept; amounts = s.amounts; operator = s.operator }) in record { kept = t.kept; amounts = t.amounts; operator = t.operator })
+    ∥∥₁_map old (by row r made)
   where
-    by : (row : Option Refusal) (r : Result Unit Refusal) → Made row (λ _. Reading h p meter x) r (metered_of b a) (metered_of d a) → Sums (metered_of b a) a → Sums (metered_of d a) a
-    by (Some refusal) r m s = subst (λ g. Sums g a) (sym m.1) s
-    by None (Ok u) m s = subst (λ g. Sums g a) (sym m.1) (read_sums (metered_of b a) a h p meter x m.0 s)
+    by : (row : Option Refusal) (r : Result Unit Refusal) → Made row (λ _. Reading h p meter x) r (metered_of b a) (metered_of d a) → Reckoned (metered_of b a) a → Reckoned (metered_of d a) a
+    by (Some refusal) r m s = subst (λ g. Reckoned g a) (sym m.1) s
+    by None (Ok u) m s = subst (λ g. Reckoned g a) (sym m.1) (read_sums (metered_of b a) a h p meter x m.0 s)
     by None (Err refusal) m s = absurd m
 
 -- settling
@@ -101,9 +97,9 @@ read_reckoned b d a row r h p meter x made old =
 in_the_day : (h n : ℕ) → h < n → n ≤ 25 → ltb h most_hours ≡ true
 in_the_day h n l m = grind (arith, l, m)
 
-module _ (b : Book) (a a₁ a₂ : Accounts) (h : ℕ) (facts : Facts) (prices : Prices) (m : Facts → Prices) (shows : ShowsRules m)
-    (none : settle_refused (metered_of b a) h ≡ None) (is-facts : facts ≡ facts_at (metered_of b a) h) (is-prices : prices ≡ m facts)
-    (kept-settled : settled_of a₁ ≡ settled_of a) (marked : booking.Settled h prices a₁ a₂) where
+module _ (b : Book) (a a₁ a₂ : Accounts) (h : ℕ) (priced : PricedHour) (m : Facts → Prices) (shows : ShowsRules m)
+    (none : settle_refused (metered_of b a) h ≡ None) (is : priced ≡ priced_by m (facts_at (metered_of b a) h))
+    (kept-settled : settled_of a₁ ≡ settled_of a) (marked : booking.Settled h priced.prices a₁ a₂) where
   lawful : Lawful (Settled h m) (metered_of b a)
   lawful = (refl, (none, shows))
 
@@ -113,19 +109,19 @@ module _ (b : Book) (a a₁ a₂ : Accounts) (h : ℕ) (facts : Facts) (prices :
   pub settled_is : metered_of b a₂ ≡ after (Settled h m) (metered_of b a)
   settled_is =
       let there = in_the_day h (metered_of b a).opening.hours within (lawful_opening b.timetable).few_hours in
-      ap (λ g. shown Metered g b) (marked.settled ∙ cond-true (ltb h most_hours) (at h (Some prices) (settled_of a₁)) (settled_of a₁) there ∙ ap (at h (Some prices)) kept-settled)
-      ∙ ap (λ q. with_settled h q (metered_of b a)) (is-prices ∙ ap m is-facts)
+      ap (λ g. shown Metered g b) (marked.settled ∙ cond-true (ltb h most_hours) (at h (Some priced.prices) (settled_of a₁)) (settled_of a₁) there ∙ ap (at h (Some priced.prices)) kept-settled)
+      ∙ ap (λ q. with_settled h q (metered_of b a)) (ap (λ p. p.prices) is)
 
   pub settled_made : Made {X = Unit} (settle_refused (metered_of b a) h) (λ _. Settled h m) (Ok tt) (metered_of b a) (metered_of b a₂)
   settled_made =
       accepted {X = Unit} (settle_refused (metered_of b a) h) (metered_of b a₂ ≡ metered_of b a) (λ _. Lawful (Settled h m) (metered_of b a) × (metered_of b a₂ ≡ after (Settled h m) (metered_of b a))) tt none (lawful, settled_is)
 
-  module _ (s : Reckoned b a) where
-    fits : PricesFit facts prices
+  module _ (s : Reckoned (metered_of b a) a) where
+    fits : PricesFit priced.facts priced.prices
     fits =
         let r = regular (metered_of b a) s.kept h within in
-        subst (λ x. PricesFit x prices) (sym is-facts)
-        (prices_fit (metered_of b a) s.kept h within prices (subst (λ q. Bounded q) (sym (is-prices ∙ ap m is-facts)) (shows.bounded (facts_at (metered_of b a) h) r)))
+        let facts = facts_at (metered_of b a) h in
+        subst (λ p. PricesFit p.facts p.prices) (sym is) (prices_fit (metered_of b a) s.kept h within (m facts) (shows.bounded facts r))
 
     roomy : Roomy a
     roomy =
@@ -135,11 +131,10 @@ module _ (b : Book) (a a₁ a₂ : Accounts) (h : ℕ) (facts : Facts) (prices :
           operator = subst (Near (25 * (32 * 2 ^ 48))) (sym s.operator) (operator_near f s.kept);
         }
 
-    module _ (billed : Billed (metered_of b a).parties (due_to price_setting_minutes facts prices (hour_at (metered_of b a) h)) a a₁) where
-      due_is : (p : ℕ) → due_to price_setting_minutes facts prices (hour_at (metered_of b a) h) p ≡ booked (due_to_party p) (Settled h m) (metered_of b a)
+    module _ (billed : Billed (metered_of b a).parties (due_to price_setting_minutes priced.facts priced.prices (hour_at (metered_of b a) h)) a a₁) where
+      due_is : (p : ℕ) → due_to price_setting_minutes priced.facts priced.prices (hour_at (metered_of b a) h) p ≡ booked (due_to_party p) (Settled h m) (metered_of b a)
       due_is p =
-          let f : Figures = metered_of b a in
-          ap (λ q. due_to price_setting_minutes facts q (hour_at f h) p) (is-prices ∙ ap m is-facts) ∙ ap (λ x. due_to price_setting_minutes x (m (facts_at f h)) (hour_at f h) p) is-facts
+          ap (λ x. due_to price_setting_minutes x.facts x.prices (hour_at (metered_of b a) h) p) is
 
       new_amounts : (p : ℕ) → amounts_of a₂ p ≡ cond (ltb p (metered_of b a).parties) (account_at (after (Settled h m) (metered_of b a)) p) (pos 0)
       new_amounts p =
@@ -153,28 +148,26 @@ module _ (b : Book) (a a₁ a₂ : Accounts) (h : ℕ) (facts : Facts) (prices :
       new_operator : operator_of a₂ ≡ operator_at (after (Settled h m) (metered_of b a))
       new_operator =
           let f : Figures = metered_of b a in
-          let sums = money_sums price_setting_minutes facts (hour_at f h) prices (own f s.kept h) in
-          let takes : operator_takes price_setting_minutes facts prices (hour_at f h) ≡ booked taken (Settled h m) f =
-          ap (λ q. operator_takes price_setting_minutes facts q (hour_at f h)) (is-prices ∙ ap m is-facts) ∙ ap (λ x. operator_takes price_setting_minutes x (m (facts_at f h)) (hour_at f h)) is-facts in
+          let sums = money_sums price_setting_minutes priced.facts (hour_at f h) priced.prices (own f s.kept h) in
+          let takes : operator_takes price_setting_minutes priced.facts priced.prices (hour_at f h) ≡ booked taken (Settled h m) f =
+          ap (λ x. operator_takes price_setting_minutes x.facts x.prices (hour_at f h)) is in
           marked.operator ∙ billed.operator ∙ less _ _ _ _ _ _ s.operator sums takes (sum_after taken (Settled h m) f s.kept lawful)
         where
           less : (x u v w y z : ℤ) → x ≡ u → v ≡ neg_ℤ w → w ≡ y → z ≡ u +ℤ y → x -ℤ v ≡ z
           less x u v w y z e d n q = omega (arith, ints, e, d, n, q)
 
-      settled_sums : Reckoned b a₂
+      settled_sums : Reckoned (metered_of b a₂) a₂
       settled_sums =
-          let t : Sums (after (Settled h m) (metered_of b a)) a₂ = record { kept = kept_after (Settled h m) (metered_of b a) s.kept lawful; amounts = new_amounts; operator = new_operator } in
-          let u = subst (λ g. Sums g a₂) (sym settled_is) t in
-          record { kept = u.kept; amounts = u.amounts; operator = u.operator }
+          subst (λ g. Reckoned g a₂) (sym settled_is) (record { kept = kept_after (Settled h m) (metered_of b a) s.kept lawful; amounts = new_amounts; operator = new_operator })
 
-  pub settled_reckoned : (PricesFit facts prices → Roomy a → Billed (metered_of b a).parties (due_to price_setting_minutes facts prices (hour_at (metered_of b a) h)) a a₁) → ∥ Reckoned b a ∥₁ → ∥ Reckoned b a₂ ∥₁
+  pub settled_reckoned : (PricesFit priced.facts priced.prices → Roomy a → Billed (metered_of b a).parties (due_to price_setting_minutes priced.facts priced.prices (hour_at (metered_of b a) h)) a a₁) → ∥ Reckoned (metered_of b a) a ∥₁ → ∥ Reckoned (metered_of b a₂) a₂ ∥₁
   settled_reckoned bill old = ∥∥₁_map old (λ s. settled_sums s (bill (fits s) (roomy s)))
 
 -- questions
 
-pub account_is : (b : Book) (a : Accounts) (p : ℕ) (x : ℤ) → ∥ Reckoned b a ∥₁ → ltb p (metered_of b a).parties ≡ true → x ≡ amounts_of a p → x ≡ account_at (metered_of b a) p
+pub account_is : (b : Book) (a : Accounts) (p : ℕ) (x : ℤ) → ∥ Reckoned (metered_of b a) a ∥₁ → ltb p (metered_of b a).parties ≡ true → x ≡ amounts_of a p → x ≡ account_at (metered_of b a) p
 account_is b a p x old entered e =
     ∥∥₁_elim old (ℤ_set _ _) (λ s. e ∙ s.amounts p ∙ cond-true (ltb p (metered_of b a).parties) (account_at (metered_of b a) p) (pos 0) entered)
 
-pub operator_is : (b : Book) (a : Accounts) (x : ℤ) → ∥ Reckoned b a ∥₁ → x ≡ operator_of a → x ≡ operator_at (metered_of b a)
+pub operator_is : (b : Book) (a : Accounts) (x : ℤ) → ∥ Reckoned (metered_of b a) a ∥₁ → x ≡ operator_of a → x ≡ operator_at (metered_of b a)
 operator_is b a x old e = ∥∥₁_elim old (ℤ_set _ _) (λ s. e ∙ s.operator)

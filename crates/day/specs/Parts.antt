@@ -13,7 +13,7 @@ abbrev pub metered_of : Book → Accounts → Figures
 metered_of book accounts = shown Metered (settled_of accounts) book
 
 -- every figure was accepted, and the accounts are what the settled hours come to
-pub record Reckoned (book : Book) (accounts : Accounts) : Type 0 where
-  pub kept : Kept (metered_of book accounts)
-  pub amounts : (p : ℕ) → amounts_of accounts p ≡ cond (nat_lt p (metered_of book accounts).parties) (account_at (metered_of book accounts) p) (pos 0)
-  pub operator : operator_of accounts ≡ operator_at (metered_of book accounts)
+pub record Reckoned (f : Figures) (accounts : Accounts) : Type 0 where
+  pub kept : Kept f
+  pub amounts : (p : ℕ) → amounts_of accounts p ≡ cond (nat_lt p f.parties) (account_at f p) (pos 0)
+  pub operator : operator_of accounts ≡ operator_at f

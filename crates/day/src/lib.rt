@@ -4,12 +4,11 @@
 mod metered;
 mod metered_asks;
 mod metered_calls;
-mod planned;
+mod open_day;
 mod planned_calls;
-mod running;
 mod running_calls;
+mod stage;
 
 pub use metered::MeteredDay;
-pub use planned::PlannedDay;
-pub use running::RunningDay;
+pub use open_day::{PlannedDay, RunningDay};
 pub use timetable::{Timetable, opening_refusal};

@@ -12,7 +12,7 @@ use crate::metered::MeteredDay;
 use market::Portfolio;
 use pricing::{Facts, Prices};
 use refusal::Refusal;
-use rows::{account_refusal, facts_refusal, imbalance_refusal};
+use rows::{check_hour, check_imbalance, check_party};
 use timetable::Timetable;
 use units::{KilowattHours, Mills, Party, Position};
 
@@ -21,9 +21,7 @@ impl MeteredDay {
     pub fn facts(&self, hour: Position) -> Result<Facts, Refusal>
         ensures { Outcome (facts_refused (metered self.now) hour.0) result Unit (λ facts. facts ≡ facts_at (metered self.now) hour.0) }
     {
-        if let Some(refusal) = facts_refusal(self.book.timetable(), hour) {
-            return Err(refusal);
-        }
+        check_hour(self.book.timetable(), hour)?;
         Ok(self.book.facts(hour))
     }
 
@@ -37,9 +35,7 @@ impl MeteredDay {
         ensures { Outcome (imbalance_refused (metered self.now) hour.0 party.0) result Unit (λ energy. energy.0 ≡ imbalance (hour_at (metered self.now) hour.0) portfolio party.0) }
     {
         let complete = self.book.has_both(hour, party);
-        if let Some(refusal) = imbalance_refusal(self.book.timetable(), hour, party, complete) {
-            return Err(refusal);
-        }
+        check_imbalance(self.book.timetable(), hour, party, complete)?;
         Ok(self.book.imbalance(hour, party, portfolio))
     }
 
@@ -47,9 +43,7 @@ impl MeteredDay {
     pub fn account(&self, party: Party) -> Result<Mills, Refusal>
         ensures { Outcome (account_refused (metered self.now) party.0) result Unit (λ amount. amount.0 ≡ account_at (metered self.now) party.0) }
     {
-        if let Some(refusal) = account_refusal(self.book.timetable(), party) {
-            return Err(refusal);
-        }
+        check_party(self.book.timetable(), party)?;
         Ok(self.accounts.amount(party))
     }
 

@@ -1,17 +1,24 @@
 // The calls of a metered day.
+ghost use Rattle.std.specs.Prelude.{◌≡◌};
 ghost use Rattle.journal.specs.Journal.{Reading, Settled};
-ghost use Rattle.journal.specs.Refused.{reading_refused, settle_refused};
+ghost use Rattle.journal.specs.Refused.{is_settled, reading_refused, settle_refused};
 ghost use Rattle.journal.specs.Made.{Made};
 ghost use Rattle.day.specs.View.{metered};
 
 use crate::metered::MeteredDay;
 use positions::Meter;
-use pricing::Policy;
+use pricing::{Policy, PricedHour};
 use refusal::Refusal;
-use rows::settle_refusal;
+use rows::check_settle;
 use units::{KilowattHours, Party, Position};
 
 impl MeteredDay {
+    fn is_settled(&self, hour: Position) -> bool
+        ensures { result ≡ is_settled (metered self.now) hour.0 }
+    {
+        self.accounts.prices_of(hour).is_some()
+    }
+
     // A reading of a party's meter in an hour; it replaces the earlier one.
     pub fn read(
         &mut self,
@@ -22,7 +29,7 @@ impl MeteredDay {
     ) -> Result<(), Refusal>
         ensures { Made (reading_refused (metered self.old) hour.0 party.0 energy.0) (λ _. Reading hour.0 party.0 meter energy.0) result (metered self.old) (metered self.new) }
     {
-        let settled = self.accounts.prices_of(hour).is_some();
+        let settled = self.is_settled(hour);
         self.book.read(hour, party, meter, energy, settled)
     }
 
@@ -30,15 +37,12 @@ impl MeteredDay {
     pub fn settle<P: Policy>(&mut self, hour: Position, policy: &P) -> Result<(), Refusal>
         ensures { Made (settle_refused (metered self.old) hour.0) (λ _. Settled hour.0 (P.meaning policy.now)) result (metered self.old) (metered self.new) }
     {
-        let settled = self.accounts.prices_of(hour).is_some();
+        let settled = self.is_settled(hour);
         let complete = self.book.is_complete(hour);
-        if let Some(refusal) = settle_refusal(self.book.timetable(), hour, settled, complete) {
-            return Err(refusal);
-        }
-        let facts = self.book.facts(hour);
-        let prices = policy.prices(&facts);
-        self.book.bill(&mut self.accounts, hour, &facts, &prices);
-        self.accounts.settle(hour, prices);
+        check_settle(self.book.timetable(), hour, settled, complete)?;
+        let priced = PricedHour::by(policy, self.book.facts(hour));
+        self.book.bill(&mut self.accounts, hour, &priced);
+        self.accounts.settle(hour, priced.prices);
         Ok(())
     }
 }

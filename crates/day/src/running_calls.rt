@@ -1,51 +1,20 @@
-// The calls and questions of a running day.
+// The calls of a running day alone.
 ghost use Rattle.std.specs.Prelude.{◌≡◌};
-ghost use Rattle.timetable.specs.View.{times};
-ghost use Rattle.journal.specs.Figures.{times_of};
-ghost use Rattle.journal.specs.Journal.{Plan, Noticed, Clock, BidAccepted, Withdrawn, Hold, Activated, Special, Finish, special_of, after};
-ghost use Rattle.journal.specs.Refused.{plan_refused, notice_refused, clock_refused, bid_refused, withdraw_refused, hold_refused, activate_refused, special_refused};
+ghost use Rattle.journal.specs.Journal.{BidAccepted, Withdrawn, Hold, Activated, Special, Finish, special_of, after};
+ghost use Rattle.journal.specs.Refused.{bid_refused, withdraw_refused, hold_refused, activate_refused, special_refused};
 ghost use Rattle.journal.specs.Lawful.{Lawful};
 ghost use Rattle.journal.specs.Made.{Made};
 ghost use Rattle.day.specs.View.{running, metered};
 
 use crate::metered::MeteredDay;
-use crate::running::RunningDay;
+use crate::open_day::RunningDay;
 use accounts::Accounts;
-use calendar::Instant;
 use ladder::Offer;
-use market::Direction;
-use notices::Notice;
+use market::{Direction, Minutes};
 use refusal::Refusal;
-use timetable::Timetable;
-use units::{KilowattHours, Party, Position, Receipt};
+use units::{KilowattHours, Position, Receipt};
 
 impl RunningDay {
-    // A party's planned production in an hour; the last plan counts.
-    pub fn plan(
-        &mut self,
-        hour: Position,
-        party: Party,
-        energy: KilowattHours,
-    ) -> Result<(), Refusal>
-        ensures { Made (plan_refused (running self.old) hour.0 party.0 energy.0) (λ _. Plan hour.0 party.0 energy.0) result (running self.old) (running self.new) }
-    {
-        self.book.plan(hour, party, energy)
-    }
-
-    // A notice; it replaces the sender's earlier one for that counterparty and hour, and a zero removes it.
-    pub fn notice(&mut self, notice: Notice) -> Result<(), Refusal>
-        ensures { Made (notice_refused (running self.old) notice) (λ _. Noticed notice) result (running self.old) (running self.new) }
-    {
-        self.book.notice(notice)
-    }
-
-    // Sets the clock; it never goes back.
-    pub fn set_clock(&mut self, instant: Instant) -> Result<(), Refusal>
-        ensures { Made (clock_refused (running self.old) instant.0) (λ _. Clock instant.0) result (running self.old) (running self.new) }
-    {
-        self.book.set_clock(instant)
-    }
-
     // The offer stands as a bid, under the receipt that is answered.
     pub fn bid(&mut self, offer: Offer) -> Result<Receipt, Refusal>
         ensures { Made (bid_refused (running self.old) offer) (λ receipt. BidAccepted offer receipt.0) result (running self.old) (running self.new) }
@@ -72,25 +41,18 @@ impl RunningDay {
         &mut self,
         hour: Position,
         direction: Direction,
-        first_minute: u8,
-        last_minute: u8,
+        minutes: Minutes,
     ) -> Result<(Receipt, KilowattHours), Refusal>
-        ensures { Made (activate_refused (running self.old) hour.0 direction first_minute last_minute) (λ x. Activated hour direction first_minute last_minute x.0.0 x.1.0) result (running self.old) (running self.new) }
+        ensures { Made (activate_refused (running self.old) hour.0 direction minutes.first minutes.last) (λ x. Activated hour direction minutes.first minutes.last x.0.0 x.1.0) result (running self.old) (running self.new) }
     {
-        self.book
-            .activate(hour, direction, first_minute, last_minute)
+        self.book.activate(hour, direction, minutes)
     }
 
     // An activation on its own terms; answers its energy.
-    pub fn special(
-        &mut self,
-        offer: Offer,
-        first_minute: u8,
-        last_minute: u8,
-    ) -> Result<KilowattHours, Refusal>
-        ensures { Made (special_refused (running self.old) (special_of offer first_minute last_minute)) (λ energy. Special (special_of offer first_minute last_minute) energy.0) result (running self.old) (running self.new) }
+    pub fn special(&mut self, offer: Offer, minutes: Minutes) -> Result<KilowattHours, Refusal>
+        ensures { Made (special_refused (running self.old) (special_of offer minutes.first minutes.last)) (λ energy. Special (special_of offer minutes.first minutes.last) energy.0) result (running self.old) (running self.new) }
     {
-        self.book.special(offer, first_minute, last_minute)
+        self.book.special(offer, minutes)
     }
 
     // The day is over, and its meters can be read.
@@ -101,12 +63,5 @@ impl RunningDay {
             book: self.book,
             accounts: Accounts::new(),
         }
-    }
-
-    // The day's date, hours and spot prices, its clock, and how many parties are entered.
-    pub fn timetable(&self) -> &Timetable
-        ensures { times result.now ≡ times_of (running self.now) }
-    {
-        self.book.timetable()
     }
 }

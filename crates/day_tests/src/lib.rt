@@ -5,14 +5,20 @@
 mod tests {
     use calendar::{Date, Instant};
     use ladder::Offer;
-    use market::{Direction, Portfolio};
+    use market::{Direction, Minutes, Portfolio};
     use notices::Notice;
     use positions::Meter;
     use pricing::policies::Nordic;
     use refusal::Refusal;
-    use replay::{Answer, MeteredCall, PlannedCall, Replay, RunningCall, replay};
+    use replay::{MeteredCall, PlannedCall, Replay, RunningCall, replay};
     use std::test::Fail;
     use units::{KilowattHours, Kilowatts, Party, Position, Price};
+
+    const DECEMBER: Date = Date {
+        year: 2017,
+        month: 12,
+        day: 20,
+    };
 
     const PRODUCER: Party = Party(0);
 
@@ -68,7 +74,7 @@ mod tests {
         ];
         let running = [
             RunningCall::Bid(upward(first)),
-            RunningCall::Activate(first, Direction::Up, 0, 60),
+            RunningCall::Activate(first, Direction::Up, Minutes { first: 0, last: 60 }),
         ];
         let metered = [
             read(first, PRODUCER, Meter::Production, 20_000),
@@ -103,11 +109,6 @@ mod tests {
     #[test]
     fn one_hour_of_december(rt: HostRuntime) -> Result<(), Fail> {
         let hour = Position(8);
-        let december = Date {
-            year: 2017,
-            month: 12,
-            day: 20,
-        };
         let planned = [
             PlannedCall::Enter,
             PlannedCall::Enter,
@@ -117,7 +118,7 @@ mod tests {
         ];
         let running = [
             RunningCall::Bid(upward(hour)),
-            RunningCall::Activate(hour, Direction::Up, 0, 30),
+            RunningCall::Activate(hour, Direction::Up, Minutes { first: 0, last: 30 }),
         ];
         let metered = [
             read(hour, PRODUCER, Meter::Production, 26_000),
@@ -128,7 +129,7 @@ mod tests {
         ];
         let run = replay(
             rt.alloc(),
-            december,
+            DECEMBER,
             &[3_000; 24],
             &planned,
             &running,
@@ -140,21 +141,9 @@ mod tests {
         Ok(())
     }
 
-    fn number(answer: Result<Answer, Refusal>) -> u8 {
-        match answer {
-            Ok(_) => 0,
-            Err(refusal) => refusal.number(),
-        }
-    }
-
     // Hour 8 starts at 9,451,140: a plan is taken 45 minutes before it, and not a minute later.
     #[test]
     fn gate_closure(rt: HostRuntime) -> Result<(), Fail> {
-        let december = Date {
-            year: 2017,
-            month: 12,
-            day: 20,
-        };
         let plan = PlannedCall::Plan(Position(8), PRODUCER, KilowattHours(20_000));
         let planned = [
             PlannedCall::Enter,
@@ -163,10 +152,9 @@ mod tests {
             PlannedCall::Clock(Instant(9_451_096)),
             plan,
         ];
-        let none: [MeteredCall<Nordic>; 0] = [];
-        let run = replay(rt.alloc(), december, &[3_000; 24], &planned, &[], &none)?;
-        assert_eq!(rt; number(run.planned[2]), 0);
-        assert_eq!(rt; number(run.planned[4]), 5);
+        let run = replay::<Nordic>(rt.alloc(), DECEMBER, &[3_000; 24], &planned, &[], &[])?;
+        assert_eq!(rt; run.planned[2].err(), None);
+        assert_eq!(rt; run.planned[4].err().map(Refusal::number), Some(5));
         Ok(())
     }
 }

@@ -1,12 +1,11 @@
 -- Whether some activation of a list counts.
-use Rattle.std.proofs.Common.{◌≡◌, ℕ, ◌<◌, Bool, true, false, List, length, get_or, Decides, refl}
+use Rattle.std.proofs.Common.{◌≡◌, Bool, true, List, length, Decides, refl}
 use Rattle.std.proofs.lemmas.List.Elements.{at_read}
 use Rattle.std.proofs.lemmas.List.{get_or_default}
-use Rattle.std.proofs.lemmas.Bool.{both_ways}
 use Rattle.std.proofs.lemmas.Bool.Decides.{Decides-by_or, Decides-like, same_from_decides}
 use Rattle.market.specs.declared.words.Activation.{Activation}
 use Rattle.market.specs.Words.{no_activation}
-use Rattle.facts.specs.Listed.{any_of, SomeOf, NoneOf}
+use Rattle.facts.specs.Listed.{any_of, SomeOf}
 
 module _ (counts : Activation → Bool) (activations : List Activation) where
   pub any_is_some : Decides (any_of counts activations) (SomeOf counts activations (length activations))
@@ -18,9 +17,3 @@ module _ (counts : Activation → Bool) (activations : List Activation) where
 
   pub some_counts : (r : Bool) → Decides r (SomeOf counts activations (length activations)) → r ≡ any_of counts activations
   some_counts r d = same_from_decides r (any_of counts activations) d any_is_some
-
-  pub found : (k : ℕ) → k < length activations → counts (get_or activations k no_activation) ≡ true → Decides true (SomeOf counts activations (length activations))
-  found k within c = (λ _. (k, within, c), λ _. refl)
-
-  pub missed : NoneOf counts activations (length activations) → Decides false (SomeOf counts activations (length activations))
-  missed none = (λ h. absurd (both_ways false refl h), λ s. absurd (both_ways _ (none s.0 s.1) s.2))

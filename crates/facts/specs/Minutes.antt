@@ -1,15 +1,15 @@
 -- The balance delta of an hour's minutes, and whether it rose or fell.
-use Rattle.std.specs.Prelude.{ℕ, zero, suc, ◌-◌, ◌<◌, ◌≤◌, Bool, false, cond, ◌&&◌, ◌||◌, List, ℤ, pos, ◌-ℤ◌, ◌<ℤ◌, sum_by, int_lt, nat_le, nat_lt}
+use Rattle.std.specs.Prelude.{ℕ, zero, suc, ◌-◌, ◌<◌, ◌≤◌, Bool, false, cond, ◌&&◌, ◌||◌, List, ℤ, pos, ◌-ℤ◌, ◌<ℤ◌, sum_by, int_lt, nat_le}
 use Rattle.units.specs.declared.Position.{Position}
 use Rattle.market.specs.declared.words.Activation.{Activation}
 use Rattle.market.specs.declared.words.Direction.{Direction}
 use Rattle.market.specs.declared.words.Direction.TheVariants.{Up, Down}
 use Rattle.market.specs.Figures.{minutes_in_hour}
+use Rattle.market.specs.Words.{is_among}
 use Rattle.facts.specs.Listed.{listed_in}
 
--- from its first minute on, and no longer in its last
 abbrev pub active_in : ℕ → Activation → Bool
-active_in minute a = nat_le a.first_minute minute && nat_lt minute a.last_minute
+active_in minute a = is_among minute a.minutes
 
 -- the power of one activation in that minute, where it is listed in the hour and the direction
 abbrev pub power_of : Position → Direction → ℕ → Activation → ℕ

@@ -1,5 +1,5 @@
 -- The balancing prices of an hour: the greatest of those that upward activations set, the least of those that downward ones set.
-use Rattle.std.specs.Prelude.{◌≡◌, ℕ, ◌<◌, Bool, true, cond, ◌&&◌, ◌⊎◌, List, [], ◌∷◌, map, length, get_or, Some, None, filter, Option, MatchOption, int_lt, nat_le, slice_index_or}
+use Rattle.std.specs.Prelude.{◌≡◌, ℕ, ◌<◌, Bool, true, cond, ◌&&◌, ◌⊎◌, List, [], ◌∷◌, map, length, get_or, Some, None, filter, Option, int_lt, nat_le, slice_index_or}
 use Rattle.std.specs.Option.{unwrap_or}
 use Rattle.units.specs.declared.Position.{Position}
 use Rattle.units.specs.declared.Price.{Price}
@@ -65,10 +65,6 @@ pub record ExtremeAt (W : Price → Price → Type 0) (counts : Activation → B
   pub reached : (k : ℕ) × (k < n) × (counts (slice_index_or activations k no_activation) ≡ true) × ((get_or activations k no_activation).price ≡ p)
   pub bound : (k : ℕ) → k < n → counts (slice_index_or activations k no_activation) ≡ true → W p (get_or activations k no_activation).price
 
--- the extreme price among the first n activations, or none where none of them counts
-abbrev pub ExtremeOf : (Price → Price → Type 0) → (Activation → Bool) → List Activation → ℕ → Option Price → Type 0
-ExtremeOf W counts activations n r = MatchOption r (NoneOf counts activations n) (ExtremeAt W counts activations n)
-
 -- p is the extreme price among all the activations, or it is spot where none of them counts
 abbrev pub ExtremeOrSpot : (Price → Price → Type 0) → (Activation → Bool) → Price → List Activation → Price → Type 0
 ExtremeOrSpot W counts spot activations p =
@@ -81,8 +77,3 @@ GreatestOrSpot = ExtremeOrSpot NoHigher
 -- the same with the least
 abbrev pub LeastOrSpot : (Activation → Bool) → Price → List Activation → Price → Type 0
 LeastOrSpot = ExtremeOrSpot NoLower
-
--- r is the one of the furthest price so far, if any, and p that lies further that way
-abbrev pub Further : Direction → Option Price → Price → Price → Type 0
-Further direction so_far p r =
-    MatchOption so_far (r ≡ p) (λ q. NoFurther direction r q × NoFurther direction r p × ((r ≡ q) ⊎ (r ≡ p)))

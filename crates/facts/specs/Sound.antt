@@ -22,7 +22,7 @@ pub record SoundActivation (spot : Price) (a : Activation) : Type 0 where
   pub side : OnItsSide a.direction spot a.price
   -- enough kilowatts for some energy in a single minute
   pub enough : 1_000 ≤ a.volume.0
-  pub lasts : a.first_minute < a.last_minute
+  pub lasts : a.minutes.first < a.minutes.last
 
 -- every standing bid of the hour has its price within the limit
 abbrev pub BidsWithin : Position → List Bid → Type 0

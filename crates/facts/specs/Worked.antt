@@ -28,8 +28,7 @@ abbrev pub example : Kind → Direction → ℕ → ℕ → Activation
 example kind direction first last =
     record {
       hour = seventh;
-      first_minute = first;
-      last_minute = last;
+      minutes = record { first = first; last = last };
       arrival = 0;
       party = record { 0 = 0 };
       portfolio = Production;

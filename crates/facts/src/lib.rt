@@ -7,10 +7,8 @@ ghost use Rattle.pricing.specs.Policies.{Regular};
 ghost use Rattle.facts.specs.Facts.{facts_of, facts_alone, Told};
 ghost use Rattle.facts.specs.Sound.{Sound};
 
-use crate::listed::{net_energy, went};
+use crate::listed::HourActivations;
 use crate::middle::standing_middle;
-use crate::minutes::rose_and_fell;
-use crate::prices::balancing_price;
 use market::{Activation, Bid, Direction};
 use pricing::Facts;
 use units::{Position, Price};
@@ -21,7 +19,8 @@ mod minutes;
 mod prices;
 pub mod worked;
 
-// An activation sets a price if it lasts at least so many minutes. The bids are the standing ones of either direction.
+// An activation sets a price if it lasts at least so many minutes. The bids are the standing ones of either direction. What
+// rests on few activations is a premise: a type of few would ask it of callers who need no exact sums.
 pub fn facts_of(
     minutes: u8,
     spot: Price,
@@ -35,16 +34,17 @@ pub fn facts_of(
     ensures told { Told minutes spot hour activations.now ups.now downs.now result }
     ensures regular { Sound spot hour activations.now ups.now downs.now → Regular result }
 {
-    let (rose, fell) = rose_and_fell(activations, hour);
+    let of_hour = HourActivations { hour, activations };
+    let (rose, fell) = of_hour.rose_and_fell();
     Facts {
         spot,
-        up_price: balancing_price(minutes, spot, hour, Direction::Up, activations),
-        down_price: balancing_price(minutes, spot, hour, Direction::Down, activations),
+        up_price: of_hour.balancing_price(minutes, spot, Direction::Up),
+        down_price: of_hour.balancing_price(minutes, spot, Direction::Down),
         middle: standing_middle(spot, hour, ups, downs),
-        net_energy: net_energy(activations, hour),
+        net_energy: of_hour.net_energy(),
         rose,
         fell,
-        went_up: went(activations, hour, Direction::Up),
-        went_down: went(activations, hour, Direction::Down),
+        went_up: of_hour.went(Direction::Up),
+        went_down: of_hour.went(Direction::Down),
     }
 }

@@ -13,11 +13,10 @@ pub fn middle(up: Option<Price>, down: Option<Price>, spot: Price) -> Price
     ensures value { result ≡ middle up down spot }
     ensures reading { MidpointOrSpot up down spot result }
 {
-    let (Some(up), Some(down)) = (up, down) else {
-        return spot;
-    };
-    let sum = i64::from(up.0) + i64::from(down.0);
-    Price(sum.div_euclid(SIDES) as i32)
+    up.zip(down).map_or(spot, |(up, down)| {
+        let sum = i64::from(up.0) + i64::from(down.0);
+        Price(sum.div_euclid(SIDES) as i32)
+    })
 }
 
 // The middle of the hour, from its standing bids of either direction, held ones included.

@@ -1,60 +1,33 @@
 // The balancing prices of an hour.
-ghost use Rattle.std.specs.Prelude.{◌≡◌, length};
-ghost use Rattle.facts.specs.Prices.{sets_price, balancing_price, NoFurther, ExtremeOf, ExtremeOrSpot, Further};
+ghost use Rattle.std.specs.Prelude.{◌≡◌};
+ghost use Rattle.facts.specs.Prices.{sets_price, balancing_price, NoFurther, ExtremeOrSpot};
 
-use crate::listed::is_listed;
+use crate::listed::HourActivations;
 use market::{Activation, Direction};
-use units::{Position, Price};
+use units::Price;
 
-// Whether the activation sets the price of that direction in the hour: it is listed and lasts long enough.
-fn sets_price(activation: &Activation, minutes: u8, hour: Position, direction: Direction) -> bool
-    ensures { result ≡ sets_price minutes hour direction activation.now }
-{
-    is_listed(activation, hour, direction) && activation.minutes() >= minutes
-}
-
-// The one of the furthest price so far, if any, and `price` that lies further that way.
-fn further(direction: Direction, so_far: Option<Price>, price: Price) -> Price
-    ensures { Further direction so_far price result }
-{
-    match (direction, so_far) {
-        (Direction::Up, Some(best)) if best.0 >= price.0 => best,
-        (Direction::Down, Some(best)) if best.0 <= price.0 => best,
-        _ => price,
+impl HourActivations<'_> {
+    // Whether the activation sets the price of that direction in the hour: it is listed and lasts long enough.
+    fn sets_price(&self, activation: &Activation, minutes: u8, direction: Direction) -> bool
+        ensures { result ≡ sets_price minutes self.now.hour direction activation.now }
+    {
+        self.is_listed(activation, direction) && activation.minutes() >= minutes
     }
-}
 
-// The price furthest that way among the activations that set one.
-fn furthest(
-    activations: &[Activation],
-    minutes: u8,
-    hour: Position,
-    direction: Direction,
-) -> Option<Price>
-    ensures { ExtremeOf (NoFurther direction) (sets_price minutes hour direction) activations.now (length activations.now) result }
-{
-    let mut so_far = None;
-    for activation in activations {
-        if sets_price(activation, minutes, hour, direction) {
-            so_far = Some(further(direction, so_far, activation.price));
-        }
-    }
-    so_far
-}
-
-// The balancing price of a direction: spot where no activation sets one.
-pub fn balancing_price(
-    minutes: u8,
-    spot: Price,
-    hour: Position,
-    direction: Direction,
-    activations: &[Activation],
-) -> Price
-    ensures value { result ≡ balancing_price direction minutes spot hour activations.now }
-    ensures reading { ExtremeOrSpot (NoFurther direction) (sets_price minutes hour direction) spot activations.now result }
-{
-    match furthest(activations, minutes, hour, direction) {
-        Some(price) => price,
-        None => spot,
+    // The price furthest that way among the activations that set one; spot where none does.
+    pub fn balancing_price(&self, minutes: u8, spot: Price, direction: Direction) -> Price
+        ensures value { result ≡ balancing_price direction minutes spot self.now.hour self.now.activations.now }
+        ensures reading { ExtremeOrSpot (NoFurther direction) (sets_price minutes self.now.hour direction) spot self.now.activations.now result }
+    {
+        let prices = self
+            .activations
+            .iter()
+            .filter(|activation| self.sets_price(activation, minutes, direction))
+            .map(|activation| activation.price);
+        let furthest = match direction {
+            Direction::Up => prices.max(),
+            Direction::Down => prices.min(),
+        };
+        furthest.unwrap_or(spot)
     }
 }

@@ -1,12 +1,13 @@
 // Hours that docs/facts.md works out by hand.
-ghost use Rattle.std.specs.Prelude.{◌≡◌, [], ◌∷◌};
+ghost use Rattle.std.specs.Prelude.{◌≡◌};
+ghost use Rattle.register.specs.Totals.{Few};
 ghost use Rattle.market.specs.declared.words.Direction.TheVariants.{Up, Down};
 ghost use Rattle.market.specs.declared.words.Kind.TheVariants.{Listed};
 ghost use Rattle.facts.specs.Worked.{example, facts_with, facts_between, worked_hours};
 
 use crate::facts_of;
 use market::figures::{MINUTES_IN_HOUR, PRICE_SETTING_MINUTES};
-use market::{Activation, Bid, Direction, Kind, Portfolio};
+use market::{Activation, Bid, Direction, Kind, Minutes, Portfolio};
 use pricing::Facts;
 use units::{Kilowatts, Party, Position, Price, Receipt};
 
@@ -14,9 +15,31 @@ const SPOT: Price = Price(3_000);
 
 const HOUR: Position = Position(7);
 
+const WHOLE_HOUR: Minutes = Minutes {
+    first: 0,
+    last: MINUTES_IN_HOUR,
+};
+
+const FIRST_HALF: Minutes = Minutes { first: 0, last: 30 };
+
+const SECOND_HALF: Minutes = Minutes {
+    first: 30,
+    last: MINUTES_IN_HOUR,
+};
+
+const TEN_MINUTES: Minutes = Minutes {
+    first: 20,
+    last: 30,
+};
+
+const NINE_MINUTES: Minutes = Minutes {
+    first: 20,
+    last: 29,
+};
+
 // 6,000 kW at 3,500 upward or 2,500 downward.
-fn example(kind: Kind, direction: Direction, first_minute: u8, last_minute: u8) -> Activation
-    ensures { result ≡ example kind direction first_minute last_minute }
+fn example(kind: Kind, direction: Direction, minutes: Minutes) -> Activation
+    ensures { result ≡ example kind direction minutes.first minutes.last }
 {
     let price = match direction {
         Direction::Up => Price(3_500),
@@ -24,8 +47,7 @@ fn example(kind: Kind, direction: Direction, first_minute: u8, last_minute: u8) 
     };
     Activation {
         hour: HOUR,
-        first_minute,
-        last_minute,
+        minutes,
         arrival: 0,
         party: Party(0),
         portfolio: Portfolio::Production,
@@ -36,23 +58,12 @@ fn example(kind: Kind, direction: Direction, first_minute: u8, last_minute: u8) 
     }
 }
 
-fn facts_with_one(activation: Activation) -> Facts
-    ensures { result ≡ facts_with (activation ∷ []) }
+// With no bids standing.
+fn facts_with(activations: &[Activation]) -> Facts
+    requires { Few activations.now }
+    ensures { result ≡ facts_with activations.now }
 {
-    facts_of(PRICE_SETTING_MINUTES, SPOT, HOUR, &[activation], &[], &[])
-}
-
-fn facts_with_two(first: Activation, second: Activation) -> Facts
-    ensures { result ≡ facts_with (first ∷ second ∷ []) }
-{
-    facts_of(
-        PRICE_SETTING_MINUTES,
-        SPOT,
-        HOUR,
-        &[first, second],
-        &[],
-        &[],
-    )
+    facts_of(PRICE_SETTING_MINUTES, SPOT, HOUR, activations, &[], &[])
 }
 
 // With an upward and a downward bid standing, and nothing listed.
@@ -85,16 +96,16 @@ fn facts_between(spot: Price, up: Price, down: Price) -> Facts
     )
 }
 
-fn upward(first_minute: u8, last_minute: u8) -> Activation
-    ensures { result ≡ example Listed Up first_minute last_minute }
+fn upward(minutes: Minutes) -> Activation
+    ensures { result ≡ example Listed Up minutes.first minutes.last }
 {
-    example(Kind::Listed, Direction::Up, first_minute, last_minute)
+    example(Kind::Listed, Direction::Up, minutes)
 }
 
-fn downward(first_minute: u8, last_minute: u8) -> Activation
-    ensures { result ≡ example Listed Down first_minute last_minute }
+fn downward(minutes: Minutes) -> Activation
+    ensures { result ≡ example Listed Down minutes.first minutes.last }
 {
-    example(Kind::Listed, Direction::Down, first_minute, last_minute)
+    example(Kind::Listed, Direction::Down, minutes)
 }
 
 pub fn worked_cases() -> [Facts; 7]
@@ -102,11 +113,11 @@ pub fn worked_cases() -> [Facts; 7]
 {
     [
         facts_between(Price(-1), Price(-1), Price(-2)),
-        facts_with_one(upward(20, 30)),
-        facts_with_one(upward(20, 29)),
-        facts_with_two(upward(0, 30), downward(30, MINUTES_IN_HOUR)),
-        facts_with_two(downward(0, 30), upward(30, MINUTES_IN_HOUR)),
-        facts_with_two(upward(0, MINUTES_IN_HOUR), downward(0, MINUTES_IN_HOUR)),
-        facts_with_one(example(Kind::Special, Direction::Up, 0, MINUTES_IN_HOUR)),
+        facts_with(&[upward(TEN_MINUTES)]),
+        facts_with(&[upward(NINE_MINUTES)]),
+        facts_with(&[upward(FIRST_HALF), downward(SECOND_HALF)]),
+        facts_with(&[downward(FIRST_HALF), upward(SECOND_HALF)]),
+        facts_with(&[upward(WHOLE_HOUR), downward(WHOLE_HOUR)]),
+        facts_with(&[example(Kind::Special, Direction::Up, WHOLE_HOUR)]),
     ]
 }

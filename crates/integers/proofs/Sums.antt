@@ -1,7 +1,7 @@
 -- Sums of whole numbers: term by term, exchanged, and cancelled.
-use Rattle.std.proofs.Common.{◌≡◌, ℕ, zero, suc, ◌+◌, ◌<◌, cond, eqb, List, [], ◌∷◌, ℤ, pos, ◌+ℤ◌, ◌-ℤ◌, ◌*ℤ◌, neg_ℤ, ◌≤ℤ◌, sym, refl, ap, ◌∙◌, ⊎_elim, add-one, arith}
+use Rattle.std.proofs.Common.{◌≡◌, ℕ, zero, suc, ◌+◌, ◌<◌, Bool, true, false, cond, eqb, List, [], ◌∷◌, map, ℤ, pos, ◌+ℤ◌, ◌-ℤ◌, ◌*ℤ◌, neg_ℤ, ◌≤ℤ◌, sym, refl, ap, ◌∙◌, ⊎_elim, add-one, arith}
 use lib.IntN.{*ℤ-zero}
-use Rattle.std.specs.List.{AllByRecursion}
+use Rattle.std.specs.List.{AllByRecursion, filter, fold}
 use Rattle.std.proofs.lemmas.Int.{ints}
 use Rattle.std.proofs.lemmas.Bool.{cases_eq, cond-true, cond-false, eq-eqb, ne_eqb}
 use Rattle.integers.specs.Sums.{sum_to, sum_over}
@@ -85,6 +85,9 @@ sum_to-only (suc n) p x h =
     omega (arith, ints))
     (cases_eq p n)
 
+none_first : (z : ℤ) → pos 0 +ℤ z ≡ z
+none_first z = omega (arith, ints)
+
 module _ {X : Type 0} where
   pub sum_over-add : (f g : X → ℤ) (xs : List X) → sum_over (λ x. f x +ℤ g x) xs ≡ sum_over f xs +ℤ sum_over g xs
   unfolding sum_over
@@ -117,3 +120,29 @@ module _ {X : Type 0} where
   sum_over-swap n f [] = sum_to-none n (λ k. pos 0) (λ k h. refl)
   sum_over-swap n f (x ∷ xs) =
       sum_to-add n (λ k. f k x) (λ k. sum_over (f k) xs) ∙ ap (λ z. sum_to n (λ k. f k x) +ℤ z) (sum_over-swap n f xs)
+
+  pub sum_over-filter : (p : X → Bool) (f : X → ℤ) (xs : List X) → sum_over f (filter p xs) ≡ sum_over (λ x. cond (p x) (f x) (pos 0)) xs
+  unfolding sum_over
+  sum_over-filter p f [] = refl
+  sum_over-filter p f (x ∷ xs) = by (p x) (sum_over-filter p f xs)
+    where
+      by : (b : Bool) → sum_over f (filter p xs) ≡ sum_over (λ x. cond (p x) (f x) (pos 0)) xs → sum_over f (cond b (x ∷ filter p xs) (filter p xs)) ≡ cond b (f x) (pos 0) +ℤ sum_over (λ x. cond (p x) (f x) (pos 0)) xs
+      by true e = ap (λ z. f x +ℤ z) e
+      by false e = e ∙ sym (none_first (sum_over (λ x. cond (p x) (f x) (pos 0)) xs))
+
+  pub sum_over-map : {Y : Type 0} (g : Y → ℤ) (f : X → Y) (xs : List X) → sum_over g (map f xs) ≡ sum_over (λ x. g (f x)) xs
+  unfolding sum_over
+  sum_over-map g f [] = refl
+  sum_over-map g f (x ∷ xs) = ap (λ z. g (f x) +ℤ z) (sum_over-map g f xs)
+
+fold_from : (a : ℤ) (xs : List ℤ) → fold ◌+ℤ◌ a xs ≡ a +ℤ sum_over (λ z. z) xs
+unfolding sum_over
+fold_from a [] = omega (arith, ints)
+fold_from a (x ∷ xs) = fold_from (a +ℤ x) xs ∙ joined (sum_over (λ z. z) xs)
+  where
+    joined : (s : ℤ) → (a +ℤ x) +ℤ s ≡ a +ℤ (x +ℤ s)
+    joined s = omega (arith, ints)
+
+-- the sum that an iterator of whole numbers answers with
+pub fold-sum : (xs : List ℤ) → fold ◌+ℤ◌ (pos 0) xs ≡ sum_over (λ z. z) xs
+fold-sum xs = fold_from (pos 0) xs ∙ none_first (sum_over (λ z. z) xs)

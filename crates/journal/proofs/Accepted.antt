@@ -4,17 +4,18 @@ use Rattle.std.proofs.lemmas.Int.{ints}
 use Rattle.market.specs.declared.words.Activation.{Activation}
 use Rattle.market.specs.declared.words.Direction.{Direction}
 use Rattle.market.specs.declared.words.Direction.TheVariants.{Up, Down}
-use Rattle.market.specs.Figures.{least_bid_volume, greatest_bid_volume, price_limit, plan_limit, reading_limit, notice_limit, minutes_in_hour, most_parties}
+use Rattle.market.specs.Figures.{plan_limit, reading_limit, notice_limit, minutes_in_hour, most_parties}
 use Rattle.ladder.specs.declared.offer.Offer.{Offer}
+use Rattle.ladder.specs.Offered.{bid_of}
 use Rattle.notices.specs.declared.notice.Notice.{Notice}
 use Rattle.timetable.specs.Opening.{Times, enter_row}
-use Rattle.pricing.specs.Policies.{Within}
 use Rattle.facts.specs.Sound.{OnItsSide}
 use Rattle.units.specs.declared.Price.{Price}
 use Rattle.integers.specs.Near.{Near}
 use Rattle.settlement.specs.Bounds.{FromZero, ActivationFits}
 use Rattle.rows.specs.Rows.{plan_row, notice_row, bid_row, activate_row, special_row, reading_row, settle_row}
 use Rattle.rows.specs.Tests.{right_side}
+use Rattle.journal.specs.Kept.{BidSound}
 
 pub entering : (t : Times) → enter_row t ≡ None → t.parties < most_parties
 entering t e = grind (arith, e)
@@ -29,16 +30,8 @@ on_side : (d : Direction) (spot p : Price) → right_side d spot p ≡ true → 
 on_side Up spot p e = grind (arith, ints, e)
 on_side Down spot p e = grind (arith, ints, e)
 
-pub record BidFits (t : Times) (offer : Offer) : Type 0 where
-  pub in_the_day : offer.hour.0 < t.opening.hours
-  pub entered : offer.party.0 < t.parties
-  pub enough : least_bid_volume ≤ offer.volume.0
-  pub most : offer.volume.0 ≤ greatest_bid_volume
-  pub price_within : Within price_limit offer.price
-  pub side : OnItsSide offer.direction (t.opening.spot offer.hour.0) offer.price
-
-pub bidding : (t : Times) (offer : Offer) (room : Bool) → bid_row t offer room ≡ None → BidFits t offer
-bidding t o room e =
+pub bidding : (t : Times) (offer : Offer) (room : Bool) (receipt : ℕ) → bid_row t offer room ≡ None → BidSound t.opening t.parties (bid_of receipt offer)
+bidding t o room receipt e =
     record {
       in_the_day = grind (arith, e);
       entered = grind (arith, e);
@@ -71,4 +64,4 @@ settling t h settled complete e = (grind (arith, e), grind (arith, e), grind (ar
 -- an hour that is not settled has no prices
 pub none_of : {X : Type 0} (o : Option X) → is_some o ≡ false → o ≡ None
 none_of None e = refl
-none_of (Some x) e = absurd (let z : ◌≡◌ {A = ℕ} 0 1 = cc in omega arith)
+none_of (Some x) e = cc

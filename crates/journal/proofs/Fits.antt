@@ -17,6 +17,7 @@ use Rattle.settlement.proofs.Bounds.{due_small}
 use Rattle.journal.specs.Figures.{Figures, hour_at, facts_at}
 use Rattle.journal.specs.Reckoned.{due_to_party, taken, if_settled, settled_at}
 use Rattle.journal.specs.Kept.{ActivationSound, Kept}
+use Rattle.journal.proofs.Grounds.{grounds_of}
 use Rattle.journal.proofs.Law.{regular, hour_cancels}
 
 -- what holds of 0 and of every value holds of the one that is looked up
@@ -70,6 +71,6 @@ operator_near f k =
 
     taken_near : (h : ℕ) → Near (32 * 2 ^ 48) (settled_at taken f h)
     taken_near h =
-        subst (Near (32 * 2 ^ 48)) (sym (twice _ _ (hour_cancels f k h)))
+        subst (Near (32 * 2 ^ 48)) (sym (twice _ _ (hour_cancels f (grounds_of f k) h)))
         (near_neg (32 * 2 ^ 48) _
         (near_weaker (f.parties * 2 ^ 48) (32 * 2 ^ 48) _ (omega (arith, k.terms.few_parties)) (near-sum_to f.parties (2 ^ 48) (λ p. settled_at (due_to_party p) f h) (λ p _. settled_near f k h p))))

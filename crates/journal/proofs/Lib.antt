@@ -1,4 +1,7 @@
 pub mod Accepted
+pub mod Sound
+pub mod Trades
+pub mod Grounds
 pub mod Kept
 pub mod Accounts
 pub mod Law

@@ -27,11 +27,13 @@ unfolding energy lex_before lex_same with_activation with_notice value_like rose
 sample_day =
     record {
       lawful = ((((((((((((((within_limit_lem, (refl, (refl, refl))), (refl, (refl, refl))), (inl refl, refl)), (inl refl, refl)), (inl refl, refl)), (refl, tt)), (refl, (refl, refl))), (refl, (refl, record { bid = _; is_first_free = refl; stands = refl; of_direction = refl; answered = refl }))), (refl, tt)), (refl, refl)), (refl, refl)), (refl, refl)), (refl, refl)), (refl, (refl, nordic_rules)));
+      policy = refl;
       settled = refl;
       balanced = refl;
       one_way = (refl, (λ e k. refl, tt));
       none_special = (λ e. refl, tt);
       net_energy_is = refl;
+      prices = refl;
       first_party = refl;
       second_party = refl;
       operator = refl;

@@ -8,7 +8,7 @@ use Rattle.market.specs.declared.words.Kind.TheVariants.{Listed, Special as Spec
 use Rattle.integers.specs.Places.{at, at_party}
 use Rattle.timetable.specs.Opening.{Opening}
 use Rattle.ladder.specs.declared.offer.Offer.{Offer}
-use Rattle.ladder.specs.Ladder.{StandingBids, added, dropped, marked, standing_with}
+use Rattle.ladder.specs.Ladder.{StandingBids, added, dropped, marked, taken, standing_with}
 use Rattle.register.specs.Registered.{with_activation}
 use Rattle.notices.specs.declared.notice.Notice.{Notice}
 use Rattle.notices.specs.Kept.{with_notice}
@@ -49,8 +49,7 @@ abbrev pub listed_of : Bid → Position → ℕ → ℕ → Activation
 listed_of b hour first last =
     record {
       hour = hour;
-      first_minute = first;
-      last_minute = last;
+      minutes = record { first = first; last = last };
       arrival = 0;
       party = b.party;
       portfolio = b.portfolio;
@@ -65,8 +64,7 @@ abbrev pub special_of : Offer → ℕ → ℕ → Activation
 special_of offer first last =
     record {
       hour = offer.hour;
-      first_minute = first;
-      last_minute = last;
+      minutes = record { first = first; last = last };
       arrival = 0;
       party = offer.party;
       portfolio = offer.portfolio;
@@ -98,18 +96,29 @@ with_bids bids f = record { opening = f.opening; stage = f.stage; clock = f.cloc
 abbrev pub with_one_more : Activation → Figures → Figures
 with_one_more a f = record { opening = f.opening; stage = f.stage; clock = f.clock; parties = f.parties; plans = f.plans; notices = f.notices; bids = f.bids; activations = with_activation a f.activations; produced = f.produced; consumed = f.consumed; settled = f.settled }
 
+-- a reading is of one meter, and leaves the readings of the other
+abbrev pub produced_with : ℕ → ℕ → Meter → ℤ → (ℕ → ℕ → Option ℤ) → ℕ → ℕ → Option ℤ
+produced_with h p Production x produced = at_party h p (Some x) produced
+produced_with h p Consumption x produced = produced
+
+abbrev pub consumed_with : ℕ → ℕ → Meter → ℤ → (ℕ → ℕ → Option ℤ) → ℕ → ℕ → Option ℤ
+consumed_with h p Production x consumed = consumed
+consumed_with h p Consumption x consumed = at_party h p (Some x) consumed
+
 abbrev pub with_reading : ℕ → ℕ → Meter → ℤ → Figures → Figures
-with_reading h p Production x f = record { opening = f.opening; stage = f.stage; clock = f.clock; parties = f.parties; plans = f.plans; notices = f.notices; bids = f.bids; activations = f.activations; produced = at_party h p (Some x) f.produced; consumed = f.consumed; settled = f.settled }
-with_reading h p Consumption x f = record { opening = f.opening; stage = f.stage; clock = f.clock; parties = f.parties; plans = f.plans; notices = f.notices; bids = f.bids; activations = f.activations; produced = f.produced; consumed = at_party h p (Some x) f.consumed; settled = f.settled }
+with_reading h p meter x f = record { opening = f.opening; stage = f.stage; clock = f.clock; parties = f.parties; plans = f.plans; notices = f.notices; bids = f.bids; activations = f.activations; produced = produced_with h p meter x f.produced; consumed = consumed_with h p meter x f.consumed; settled = f.settled }
 
 -- the hour has these prices from now on
 abbrev pub with_settled : ℕ → Prices → Figures → Figures
 with_settled h prices f = record { opening = f.opening; stage = f.stage; clock = f.clock; parties = f.parties; plans = f.plans; notices = f.notices; bids = f.bids; activations = f.activations; produced = f.produced; consumed = f.consumed; settled = at h (Some prices) f.settled }
 
 -- the bid whose receipt an activation returned, taken whole
+abbrev pub with_listed : Option Bid → Position → ℕ → ℕ → List Activation → List Activation
+with_listed None hour first last activations = activations
+with_listed (Some b) hour first last activations = with_activation (listed_of b hour first last) activations
+
 abbrev pub with_taken : Option Bid → Position → ℕ → ℕ → Figures → Figures
-with_taken None hour first last f = f
-with_taken (Some b) hour first last f = with_one_more (listed_of b hour first last) (with_bids (dropped b.receipt.0 f.bids) f)
+with_taken bid hour first last f = record { opening = f.opening; stage = f.stage; clock = f.clock; parties = f.parties; plans = f.plans; notices = f.notices; bids = taken bid f.bids; activations = with_listed bid hour first last f.activations; produced = f.produced; consumed = f.consumed; settled = f.settled }
 
 abbrev pub after : Entry → Figures → Figures
 after (Entered p) f = with_party f

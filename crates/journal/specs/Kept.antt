@@ -1,4 +1,4 @@
--- What every run of lawful calls keeps: proved of every journal, and carried by the days themselves.
+-- What every run of lawful calls keeps, all limits among it: proved of every journal, and carried by the days themselves. The law of the sums rests on less.
 use Rattle.std.specs.Prelude.{◌≡◌, ℕ, ◌<◌, ◌≤◌, List, length, ℤ, pos, Some, None, Option, ◌≢◌}
 use Rattle.std.specs.Option.{unwrap_or}
 use Rattle.std.specs.List.{AllByRecursion}
@@ -17,7 +17,8 @@ use Rattle.facts.specs.Sound.{OnItsSide, SoundActivation}
 use Rattle.integers.specs.Near.{Near}
 use Rattle.settlement.specs.Bounds.{FromZero, ActivationFits}
 use Rattle.journal.specs.Figures.{Metered, Figures, facts_at}
-use Rattle.journal.specs.Lawful.{LawfulOpening}
+use Rattle.journal.specs.Journal.{Journal, figures}
+use Rattle.journal.specs.Lawful.{LawfulOpening, LawfulJournal}
 
 pub record BidSound (opening : Opening) (n : ℕ) (b : Bid) : Type 0 where
   pub in_the_day : b.hour.0 < opening.hours
@@ -63,3 +64,6 @@ pub record Kept (f : Figures) : Type 0 where
   pub energies : Energies f.plans f.notices f.produced f.consumed
   pub trades : Trades f.opening f.parties f.bids f.activations
   pub settlements : Settlements f
+
+abbrev pub RunsKeep : Type 0
+RunsKeep = (opening : Opening) (journal : Journal) → LawfulJournal opening journal → Kept (figures opening journal)

@@ -13,10 +13,14 @@ use Rattle.journal.specs.Figures.{Stage, Planned, Running, Metered, Figures}
 use Rattle.journal.specs.Journal.{Entry, Journal, Entered, Plan, Noticed, Clock, Start, BidAccepted, Withdrawn, Hold, Activated, Special, Finish, Reading, Settled, listed_of, figures}
 use Rattle.journal.specs.Refused.{first_of, enter_refused, clock_refused, plan_refused, notice_refused, bid_refused, withdraw_refused, hold_refused, activate_refused, special_refused, reading_refused, settle_refused}
 
--- no more hours than the longest day has, and every spot price is within its limit
+-- every spot price of the day is within its limit
+abbrev pub SpotsWithin : Opening → Type 0
+SpotsWithin opening = (h : ℕ) → h < opening.hours → Within price_limit (opening.spot h)
+
+-- and it has no more hours than the longest day
 pub record LawfulOpening (opening : Opening) : Type 0 where
   pub few_hours : opening.hours ≤ most_hours
-  pub spots : (h : ℕ) → h < opening.hours → Within price_limit (opening.spot h)
+  pub spots : SpotsWithin opening
 
 -- the first free bid of the hour and direction is taken, and is the one that stands with the receipt
 pub record Takes (f : Figures) (hour : Position) (direction : Direction) (first last receipt : ℕ) (energy : ℤ) : Type 0 where

@@ -3,6 +3,7 @@ pub mod Journal
 pub mod Refused
 pub mod Reckoned
 pub mod Lawful
+pub mod Sound
 pub mod Kept
 pub mod Made
 pub mod Sums

@@ -8,7 +8,7 @@ use Rattle.pricing.specs.declared.Prices.{Prices}
 use Rattle.settlement.specs.Hour.{Hour}
 use Rattle.settlement.specs.Payments.{due_to, operator_takes}
 use Rattle.journal.specs.Figures.{Figures, hour_at, facts_at}
-use Rattle.journal.specs.Journal.{Entry, Journal, Entered, Plan, Noticed, Clock, Start, BidAccepted, Withdrawn, Hold, Activated, Special, Finish, Reading, Settled, figures}
+use Rattle.journal.specs.Journal.{Entry, Journal, Settled, figures}
 
 -- what a settlement at these prices comes to in an hour
 abbrev pub Booking : Type 0
@@ -39,19 +39,8 @@ operator_at f = sum_to f.opening.hours (settled_at taken f)
 
 -- what an accepted call books: only a settlement books anything, at the prices of its policy for the hour's facts
 abbrev pub booked : Booking → Entry → Figures → ℤ
-booked booking (Entered p) f = pos 0
-booked booking (Plan h p x) f = pos 0
-booked booking (Noticed n) f = pos 0
-booked booking (Clock t) f = pos 0
-booked booking Start f = pos 0
-booked booking (BidAccepted offer receipt) f = pos 0
-booked booking (Withdrawn receipt) f = pos 0
-booked booking (Hold receipt held) f = pos 0
-booked booking (Activated hour direction first last receipt energy) f = pos 0
-booked booking (Special a energy) f = pos 0
-booked booking Finish f = pos 0
-booked booking (Reading h p meter x) f = pos 0
 booked booking (Settled h m) f = booking (m (facts_at f h)) (facts_at f h) (hour_at f h)
+booked booking _ f = pos 0
 
 -- what the settlements booked, each when it was made
 unfoldable pub booked_in : Booking → Opening → Journal → ℤ
@@ -67,19 +56,8 @@ operator_account opening journal = booked_in taken opening journal
 
 -- the meaning of the policy under which a call settled that hour, if it did, else the one before it
 abbrev pub policy_by : Entry → ℕ → Option (Facts → Prices) → Option (Facts → Prices)
-policy_by (Entered p) k before = before
-policy_by (Plan h p x) k before = before
-policy_by (Noticed n) k before = before
-policy_by (Clock t) k before = before
-policy_by Start k before = before
-policy_by (BidAccepted offer receipt) k before = before
-policy_by (Withdrawn receipt) k before = before
-policy_by (Hold receipt held) k before = before
-policy_by (Activated hour direction first last receipt energy) k before = before
-policy_by (Special a energy) k before = before
-policy_by Finish k before = before
-policy_by (Reading h p meter x) k before = before
 policy_by (Settled h m) k before = cond (k == h) (Some m) before
+policy_by _ k before = before
 
 -- the policy of a settled hour
 abbrev pub policy_of : Journal → ℕ → Option (Facts → Prices)

@@ -15,7 +15,7 @@ use Rattle.notices.specs.declared.notice.Notice.{Notice}
 use Rattle.positions.specs.declared.record.Meter.TheVariants.{Production as ProductionMeter, Consumption as ConsumptionMeter}
 use Rattle.journal.specs.Figures.{position, hour_at, facts_at}
 use Rattle.journal.specs.Journal.{Journal, Entered, Plan, Noticed, Start, BidAccepted, Activated, Special, Finish, Reading, Settled, figures}
-use Rattle.journal.specs.Reckoned.{account, operator_account}
+use Rattle.journal.specs.Reckoned.{account, operator_account, policy_of}
 use Rattle.journal.specs.Sums.{OneWay}
 use Rattle.journal.specs.Lawful.{LawfulJournal}
 use Rattle.settlement.specs.declared.bills.WorkedDay.{WorkedDay}
@@ -59,11 +59,14 @@ sample_journal =
 -- the calls are lawful, hour 8 is settled and meets all that the bound of the third sum asks, and these are the accounts
 pub record SampleDay : Type 0 where
   pub lawful : LawfulJournal sample_opening sample_journal
+  pub policy : policy_of sample_journal 8 ≡ Some nordic_prices
   pub settled : (figures sample_opening sample_journal).settled 8 ≡ Some (four (cents 3_000) (cents 3_500) (cents 3_500) (cents 3_500))
   pub balanced : Balanced (hour_at (figures sample_opening sample_journal) 8)
   pub one_way : OneWay Up (figures sample_opening sample_journal) 8
   pub none_special : NoneSpecial (hour_at (figures sample_opening sample_journal) 8)
+  -- net energy, and what the policy means for the hour's facts
   pub net_energy_is : (facts_at (figures sample_opening sample_journal) 8).net_energy.0 ≡ pos 5_000
+  pub prices : nordic_prices (facts_at (figures sample_opening sample_journal) 8) ≡ four (cents 3_000) (cents 3_500) (cents 3_500) (cents 3_500)
   pub first_party : account sample_opening sample_journal 0 ≡ pos 20_500_000
   pub second_party : account sample_opening sample_journal 1 ≡ neg_ℤ (pos 21_000_000)
   pub operator : operator_account sample_opening sample_journal ≡ pos 500_000
@@ -79,8 +82,7 @@ abbrev pub mixed_special : Activation
 mixed_special =
     record {
       hour = position 9;
-      first_minute = 0;
-      last_minute = 60;
+      minutes = record { first = 0; last = 60 };
       arrival = 0;
       party = record { 0 = 1 };
       portfolio = ConsumptionAndTrade;

@@ -1,5 +1,5 @@
 -- From the place that is found to the first bid that passes a test. Assumes nothing.
-use Rattle.std.proofs.Common.{◌≡◌, ℕ, zero, suc, ◌<◌, Bool, true, false, not, eqb, List, [], ◌∷◌, length, get_or, IfSome, Some, None, Decides, Option, sym, refl, ap, ◌∙◌, inl, inr, arith}
+use Rattle.std.proofs.Common.{◌≡◌, ℕ, zero, suc, ◌<◌, Bool, true, false, not, eqb, List, [], ◌∷◌, length, get_or, IfSome, Some, None, Decides, Option, MatchOption, sym, refl, ap, ◌∙◌, subst, inl, inr, arith}
 use Rattle.std.proofs.lemmas.Option.{slice_get-get_or}
 use Rattle.std.proofs.lemmas.Bool.{and_from, and_parts, cases_Bool, cond-false, cond-true, eq-eqb, eqb-true, false≢true, not_from_false, not-true}
 use Rattle.std.specs.List.{slice_get}
@@ -10,7 +10,7 @@ use Rattle.market.specs.Words.{no_bid}
 use Rattle.market.specs.declared.words.Bid.{Bid}
 use Rattle.market.specs.declared.words.Direction.{Direction}
 use Rattle.market.specs.declared.words.Direction.TheVariants.{Up, Down}
-use Rattle.ladder.specs.Ladder.{first_by, first_free, is_free, with_receipt}
+use Rattle.ladder.specs.Ladder.{StandingBids, bid_at, bids_of, first_by, first_free, is_free, standing_with, with_receipt}
 use Rattle.ladder.specs.Sides.{has_receipt, only_of}
 use Rattle.market.specs.Words.{same_direction}
 use Rattle.ladder.specs.Standing.{First, FirstAt, Free, NoneOf, Numbered}
@@ -44,22 +44,50 @@ pub receipt_found : (r : Receipt) (xs : List Bid) (k : Option ℕ) → First (Nu
 receipt_found r xs k h = first_found (Numbered r) (has_receipt r.0) (decides_receipt r) xs k h
 
 -- among the bids of one direction, then of the other
-pub found_first : (r : Receipt) (xs ys : List Bid) (k : ℕ) → FirstAt (Numbered r) xs k → slice_get xs k ≡ option_or (with_receipt r.0 xs) (with_receipt r.0 ys)
+found_first : (r : Receipt) (xs ys : List Bid) (k : ℕ) → FirstAt (Numbered r) xs k → slice_get xs k ≡ option_or (with_receipt r.0 xs) (with_receipt r.0 ys)
 found_first r xs ys k h =
     let e : Some (get_or xs k no_bid) ≡ with_receipt r.0 xs = receipt_found r xs (Some k) h in
     slice_get-get_or xs k no_bid h.within ∙ ap (λ o. option_or o (with_receipt r.0 ys)) e
 
-pub found_second : (r : Receipt) (xs ys : List Bid) (k : ℕ) → NoneOf (Numbered r) xs (length xs) → FirstAt (Numbered r) ys k → slice_get ys k ≡ option_or (with_receipt r.0 xs) (with_receipt r.0 ys)
+found_second : (r : Receipt) (xs ys : List Bid) (k : ℕ) → NoneOf (Numbered r) xs (length xs) → FirstAt (Numbered r) ys k → slice_get ys k ≡ option_or (with_receipt r.0 xs) (with_receipt r.0 ys)
 found_second r xs ys k n h =
     let e : None ≡ with_receipt r.0 xs = receipt_found r xs None n in
     let f : Some (get_or ys k no_bid) ≡ with_receipt r.0 ys = receipt_found r ys (Some k) h in
     slice_get-get_or ys k no_bid h.within ∙ f ∙ ap (λ o. option_or o (with_receipt r.0 ys)) e
 
-pub found_neither : (r : Receipt) (xs ys : List Bid) → NoneOf (Numbered r) xs (length xs) → NoneOf (Numbered r) ys (length ys) → None ≡ option_or (with_receipt r.0 xs) (with_receipt r.0 ys)
+found_neither : (r : Receipt) (xs ys : List Bid) → NoneOf (Numbered r) xs (length xs) → NoneOf (Numbered r) ys (length ys) → None ≡ option_or (with_receipt r.0 xs) (with_receipt r.0 ys)
 found_neither r xs ys n m =
     let e : None ≡ with_receipt r.0 xs = receipt_found r xs None n in
     let f : None ≡ with_receipt r.0 ys = receipt_found r ys None m in
     f ∙ ap (λ o. option_or o (with_receipt r.0 ys)) e
+
+found_downward : (r : Receipt) (s : StandingBids) (k : Option ℕ) (p : Option (Direction × ℕ)) → NoneOf (Numbered r) s.up (length s.up) → First (Numbered r) s.down k
+    → p ≡ option_map (λ n. (Down, n)) k → bid_at s p ≡ standing_with r.0 s
+found_downward r s None p n h e = ap (bid_at s) e ∙ found_neither r s.up s.down n h
+found_downward r s (Some k) p n h e = ap (bid_at s) e ∙ found_second r s.up s.down k n h
+
+-- p is the place k of the upward bids, if there is one, and else what is answered of the downward ones
+pub place_found : (r : Receipt) (s : StandingBids) (k : Option ℕ) (q p : Option (Direction × ℕ)) (Downward : Type 0) → First (Numbered r) s.up k
+    → MatchOption k (q ≡ None) (λ n. q ≡ Some (Up, n)) → MatchOption q Downward (λ x. p ≡ Some x)
+    → (Downward → (j : Option ℕ) × First (Numbered r) s.down j × (p ≡ option_map (λ n. (Down, n)) j))
+    → bid_at s p ≡ standing_with r.0 s
+place_found r s None None p D h e d down = let w = down d in found_downward r s w.0 p h w.1 w.2
+place_found r s None (Some x) p D h e d down = absurd (let z : ◌≡◌ {A = ℕ} 0 1 = cc in omega arith)
+place_found r s (Some k) None p D h e d down = absurd (let z : ◌≡◌ {A = ℕ} 0 1 = cc in omega arith)
+place_found r s (Some k) (Some x) p D h e d down = ap (bid_at s) (d ∙ e) ∙ found_first r s.up s.down k h
+
+-- what is known of the place p that is found: the direction d, which is e, and the place k there
+abbrev pub Within : Receipt → StandingBids → Option (Direction × ℕ) → Type 0
+Within r s p = IfSome p (λ p. (p.1 < length (bids_of p.0 s)) × ((get_or (bids_of p.0 s) p.1 no_bid).receipt ≡ r))
+
+pub found_in : (r : Receipt) (s : StandingBids) (p : Option (Direction × ℕ)) (d : Direction) {e : Direction} (k : ℕ) → p ≡ Some (d, k) → d ≡ e → Within r s p
+    → (k < length (bids_of e s)) × ((get_or (bids_of e s) k no_bid).receipt ≡ r)
+found_in r s p d k is at within = subst (λ e. (k < length (bids_of e s)) × ((get_or (bids_of e s) k no_bid).receipt ≡ r)) at (subst (Within r s) is within)
+
+pub found_is : (r : Receipt) (s : StandingBids) (p : Option (Direction × ℕ)) (d : Direction) (k : ℕ) → p ≡ Some (d, k) → bid_at s p ≡ standing_with r.0 s → Within r s p
+    → standing_with r.0 s ≡ Some (get_or (bids_of d s) k no_bid)
+found_is r s p d k is value within =
+    sym value ∙ ap (bid_at s) is ∙ slice_get-get_or (bids_of d s) k no_bid (found_in r s p d k is refl within).0
 
 -- ---- by its hour, not held
 decides_free : (hour : Position) (b : Bid) → Decides (is_free hour.0 b) (Free hour b)
@@ -72,7 +100,7 @@ pub free_found : (hour : Position) (xs : List Bid) (k : Option ℕ) → First (F
 free_found hour xs k h = first_found (Free hour) (is_free hour.0) (decides_free hour) xs k h
 
 -- ---- of the direction of its list
-same_direction_lem : (d e : Direction) → same_direction d e ≡ true → e ≡ d
+pub same_direction_lem : (d e : Direction) → same_direction d e ≡ true → e ≡ d
 same_direction_lem Up Up h = refl
 same_direction_lem Up Down h = absurd (false≢true h)
 same_direction_lem Down Up h = absurd (false≢true h)

@@ -1,4 +1,5 @@
 mod Counts
+pub mod Extremes
 mod Found
 mod Invariant
 pub mod Keeps

@@ -1,15 +1,11 @@
 -- What is asked of a list of standing bids.
-use Rattle.std.specs.Prelude.{◌≡◌, ℕ, ◌<◌, false, ◌⊎◌, List, length, get_or, ◌≤ℤ◌, Option, MatchOption, slice_index_or}
+use Rattle.std.specs.Prelude.{◌≡◌, ℕ, ◌<◌, false, List, length, get_or, ◌≤ℤ◌, Option, MatchOption, slice_index_or}
 use Rattle.std.specs.Option.{option_map}
 use Rattle.units.specs.declared.Position.{Position}
 use Rattle.units.specs.declared.Price.{Price}
 use Rattle.units.specs.declared.Receipt.{Receipt}
 use Rattle.market.specs.declared.words.Bid.{Bid}
 use Rattle.market.specs.Words.{no_bid}
-use Rattle.ladder.specs.declared.standing.Sought.{Sought}
-use Rattle.ladder.specs.declared.standing.Sought.TheVariants.{FreeBidOf, BidWith}
-use Rattle.ladder.specs.declared.standing.End.{End}
-use Rattle.ladder.specs.declared.standing.End.TheVariants.{Lowest, Highest}
 
 -- k is the first place whose bid has P
 pub record FirstAt (P : Bid → Type 0) (bids : List Bid) (k : ℕ) : Type 0 where
@@ -37,11 +33,6 @@ Free hour bid = OfHour hour bid × (bid.held ≡ false)
 abbrev pub Numbered : Receipt → Bid → Type 0
 Numbered receipt bid = bid.receipt ≡ receipt
 
--- what is looked for among the bids
-abbrev pub Meets : Sought → Bid → Type 0
-Meets (FreeBidOf hour) bid = Free hour bid
-Meets (BidWith receipt) bid = Numbered receipt bid
-
 -- q is not lower than p
 abbrev pub NoLower : Price → Price → Type 0
 NoLower p q = p.0 ≤ℤ q.0
@@ -49,11 +40,6 @@ NoLower p q = p.0 ≤ℤ q.0
 -- q is not higher than p
 abbrev pub NoHigher : Price → Price → Type 0
 NoHigher p q = q.0 ≤ℤ p.0
-
--- q does not lie beyond p, toward that end of the prices
-abbrev pub Within : End → Price → Price → Type 0
-Within Lowest p q = NoLower p q
-Within Highest p q = NoHigher p q
 
 -- among the first n bids, one of the hour has the price p, and none of the hour has a price beyond it
 pub record ExtremeAt (W : Price → Price → Type 0) (hour : Position) (bids : List Bid) (n : ℕ) (p : Price) : Type 0 where
@@ -67,11 +53,6 @@ ExtremeOf W hour bids n r = MatchOption r (NoneOf (OfHour hour) bids n) (Extreme
 -- the same among all the bids: the lowest price where W is `NoLower`, the highest where it is `NoHigher`
 abbrev pub Extreme : (Price → Price → Type 0) → Position → List Bid → Option Price → Type 0
 Extreme W hour bids r = ExtremeOf W hour bids (length bids) r
-
--- r is the one of the best so far, if any, and p that lies nearer to the end
-abbrev pub Nearer : End → Option Price → Price → Price → Type 0
-Nearer end best p r =
-    MatchOption best (r ≡ p) (λ b. Within end r b × Within end r p × ((r ≡ b) ⊎ (r ≡ p)))
 
 -- r is the first bid that has P, or none where no bid has it
 abbrev pub FirstBid : (Bid → Type 0) → List Bid → Option Bid → Type 0

@@ -16,7 +16,7 @@ pub struct Offer {
 }
 
 impl Offer {
-    // The bid that it becomes under that receipt.
+    // The bid that it becomes under that receipt. No `From`, since the receipt is needed besides.
     pub(crate) fn bid(self, receipt: Receipt) -> Bid
         ensures { result ≡ bid_of receipt.0 self }
     {

@@ -2,3 +2,4 @@ pub mod Energy
 pub mod Order
 pub mod Figures
 pub mod Words
+pub mod Keys

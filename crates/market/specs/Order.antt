@@ -32,7 +32,7 @@ bid_same a b = lex_same (bid_key a) (bid_key b)
 
 -- activations: by hour, then first minute, then number of arrival
 abbrev pub activation_key : Activation → List ℤ
-activation_key a = pos a.hour.0 ∷ (pos a.first_minute ∷ (pos a.arrival ∷ []))
+activation_key a = pos a.hour.0 ∷ (pos a.minutes.first ∷ (pos a.arrival ∷ []))
 
 abbrev pub activation_before : Activation → Activation → Bool
 activation_before a b = lex_before (activation_key a) (activation_key b)

@@ -1,10 +1,11 @@
 -- Words for single bids and activations.
-use Rattle.std.specs.Prelude.{ℕ, ◌-◌, Bool, true, false, pos}
+use Rattle.std.specs.Prelude.{ℕ, ◌-◌, Bool, true, false, ◌&&◌, nat_le, nat_lt, pos}
 use Rattle.market.specs.declared.words.Activation.{Activation}
 use Rattle.market.specs.declared.words.Bid.{Bid}
 use Rattle.market.specs.declared.words.Direction.{Direction}
 use Rattle.market.specs.declared.words.Direction.TheVariants.{Up, Down}
 use Rattle.market.specs.declared.words.Kind.TheVariants.{Listed}
+use Rattle.market.specs.declared.words.Minutes.{Minutes}
 use Rattle.market.specs.declared.words.Portfolio.TheVariants.{Production}
 use Rattle.market.specs.Energy.{energy}
 
@@ -26,8 +27,7 @@ abbrev pub no_activation : Activation
 no_activation =
     record {
       hour = record { 0 = 0 };
-      first_minute = 0;
-      last_minute = 0;
+      minutes = record { first = 0; last = 0 };
       arrival = 0;
       party = record { 0 = 0 };
       portfolio = Production;
@@ -37,9 +37,17 @@ no_activation =
       kind = Listed;
     }
 
--- how many minutes the activation lasts: none where its last minute is not above its first
+-- how many the minutes are: none where the last is not above the first
+abbrev pub count_of : Minutes → ℕ
+count_of m = m.last - m.first
+
+-- from the first on, and no longer in the last
+abbrev pub is_among : ℕ → Minutes → Bool
+is_among minute m = nat_le m.first minute && nat_lt minute m.last
+
+-- how many minutes the activation lasts
 abbrev pub minutes_of : Activation → ℕ
-minutes_of a = a.last_minute - a.first_minute
+minutes_of a = count_of a.minutes
 
 -- its energy, rounded alone
 abbrev pub energy_of : Activation → ℕ

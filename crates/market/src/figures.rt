@@ -1,4 +1,4 @@
-// Every figure of the rules, in one place. specs/Figures.antt has the same words for contracts.
+// Every figure of the rules, in one place. specs/Figures.antt states them apart from the code, so that a wrong one is refused.
 ghost use Rattle.std.specs.Prelude.{◌≡◌, pos};
 ghost use Rattle.market.specs.Figures.{least_bid_volume, greatest_bid_volume, least_special_volume, greatest_special_volume};
 ghost use Rattle.market.specs.Figures.{price_limit, plan_limit, reading_limit, notice_limit};

@@ -6,4 +6,4 @@ mod order;
 pub mod rounding;
 pub mod words;
 
-pub use words::{Activation, Bid, Direction, Kind, Portfolio};
+pub use words::{Activation, Bid, Direction, Kind, Minutes, Portfolio};

@@ -1,20 +1,16 @@
 // The order in which bids and activations stand. Bids of a direction: by hour, then price, the best for the area first,
 // then receipt. Activations: by hour, then first minute, then number of arrival.
-ghost use Rattle.std.specs.Prelude.{◌≡◌};
-ghost use Rattle.market.specs.Order.{bid_before, bid_same, direction_key, price_key, activation_before, activation_same, bid_key, activation_key};
-ghost use Rattle.ordered.proofs.Lexical.{lex_order};
+ghost use Rattle.std.specs.Prelude.{◌≡◌, refl};
+ghost use Rattle.market.specs.Order.{bid_before, bid_same, price_key, activation_before, activation_same, bid_key, activation_key};
+ghost use Rattle.market.specs.Keys.{bid_alike};
+ghost use Rattle.ordered.proofs.Lexical.{lex_key, tuples};
 
 use crate::words::{Activation, Bid, Direction};
 use ordered::Ranked;
-use std::cmp::Ordering;
-
-fn direction_key(direction: Direction) -> u8
-    ensures { result ≡ direction_key direction }
-{
-    direction as u8
-}
+use units::{Position, Receipt};
 
 // The price as it ranks: upward the lowest stands first, downward the highest.
+// A method of Direction for this would have to say what becomes of the least number of 64 bits, which has no negative.
 fn price_key(bid: &Bid) -> i64
     ensures { result ≡ price_key bid.now }
 {
@@ -25,34 +21,33 @@ fn price_key(bid: &Bid) -> i64
 }
 
 impl Ranked for Bid {
+    type Key = (Direction, Position, i64, Receipt);
+
     ghost before = { bid_before };
 
     ghost same = { bid_same };
 
-    ghost order = { lex_order bid_key };
+    ghost key = { λ b. (b.direction, b.hour, price_key b, b.receipt) };
 
-    fn compare(&self, other: &Bid) -> Ordering {
-        let by_direction = direction_key(self.direction).cmp(&direction_key(other.direction));
-        let by_hour = self.hour.0.cmp(&other.hour.0);
-        let by_price = price_key(self).cmp(&price_key(other));
-        let by_receipt = self.receipt.0.cmp(&other.receipt.0);
-        by_direction.then(by_hour.then(by_price.then(by_receipt)))
+    ghost by_key = { lex_key bid_key (λ b. (b.direction, b.hour, price_key b, b.receipt)) (bid_alike ⟦<Direction as Ord>⟧.cmp refl refl refl refl) };
+
+    fn key(&self) -> Self::Key {
+        (self.direction, self.hour, price_key(self), self.receipt)
     }
 }
 
 impl Ranked for Activation {
+    type Key = (Position, u8, u32);
+
     ghost before = { activation_before };
 
     ghost same = { activation_same };
 
-    ghost order = { lex_order activation_key };
+    ghost key = { λ a. (a.hour, a.minutes.first, a.arrival) };
 
-    fn compare(&self, other: &Activation) -> Ordering {
-        let by_arrival = self.arrival.cmp(&other.arrival);
-        let by_minute = self.first_minute.cmp(&other.first_minute);
-        self.hour
-            .0
-            .cmp(&other.hour.0)
-            .then(by_minute.then(by_arrival))
+    ghost by_key = { lex_key activation_key (λ a. (a.hour, a.minutes.first, a.arrival)) (λ a b. Prim.simp tuples) };
+
+    fn key(&self) -> Self::Key {
+        (self.hour, self.minutes.first, self.arrival)
     }
 }

@@ -5,7 +5,7 @@ ghost use Rattle.market.specs.Energy.{energy, Lawful};
 use crate::figures::MINUTES_IN_HOUR;
 use units::{KilowattHours, Kilowatts};
 
-const HOUR: u64 = MINUTES_IN_HOUR as u64;
+const HOUR: i64 = MINUTES_IN_HOUR as i64;
 
 // Rounded to the nearest kilowatt-hour, a half upward.
 pub fn energy(power: Kilowatts, minutes: u8) -> KilowattHours
@@ -13,8 +13,8 @@ pub fn energy(power: Kilowatts, minutes: u8) -> KilowattHours
     ensures bound { energy power.0 minutes < 2 ^ 35 }
     ensures lawful { Lawful power.0 minutes (energy power.0 minutes) }
 {
-    let worked = u64::from(power.0) * u64::from(minutes);
-    KilowattHours(((worked + HOUR / 2) / HOUR) as i64)
+    let worked = i64::from(power.0) * i64::from(minutes);
+    KilowattHours((worked + HOUR / 2) / HOUR)
 }
 
 // Of 83.5, 84.5, 83 1/3 and 5,000 kilowatt-hours.

@@ -1,6 +1,6 @@
 // Bids and activations, and the words that describe them.
 ghost use Rattle.std.specs.Prelude.{◌≡◌, ◌^◌, ◌<◌, pos};
-ghost use Rattle.market.specs.Words.{minutes_of, energy_of};
+ghost use Rattle.market.specs.Words.{count_of, is_among, minutes_of, energy_of};
 
 use crate::rounding;
 use units::{KilowattHours, Kilowatts, Party, Position, Price, Receipt};
@@ -11,7 +11,7 @@ pub enum Portfolio {
     ConsumptionAndTrade,
 }
 
-#[derive(Clone, Copy, PartialEq, Eq, Debug)]
+#[derive(Clone, Copy, PartialEq, Eq, PartialOrd, Ord, Debug)]
 pub enum Direction {
     Up,
     Down,
@@ -36,11 +36,32 @@ pub struct Bid {
     pub held: bool,
 }
 
+// The minutes of an hour that an activation lasts for: from the first on, up to the last, which is no more of it.
+#[derive(Clone, Copy, PartialEq, Eq, Debug)]
+pub struct Minutes {
+    pub first: u8,
+    pub last: u8,
+}
+
+impl Minutes {
+    // How many they are; none where the last is not above the first.
+    pub fn count(self) -> u8
+        ensures { result ≡ count_of self }
+    {
+        self.last.saturating_sub(self.first)
+    }
+
+    pub fn contains(self, minute: u8) -> bool
+        ensures { result ≡ is_among minute self }
+    {
+        (self.first..self.last).contains(&minute)
+    }
+}
+
 #[derive(Clone, Copy, PartialEq, Eq, Debug)]
 pub struct Activation {
     pub hour: Position,
-    pub first_minute: u8,
-    pub last_minute: u8,
+    pub minutes: Minutes,
     pub arrival: u32,
     pub party: Party,
     pub portfolio: Portfolio,
@@ -51,11 +72,11 @@ pub struct Activation {
 }
 
 impl Activation {
-    // How long it lasts; none where the last minute is not above the first.
+    // How long it lasts.
     pub fn minutes(&self) -> u8
         ensures { result ≡ minutes_of self.now }
     {
-        self.last_minute.saturating_sub(self.first_minute)
+        self.minutes.count()
     }
 
     // Its energy, rounded alone, before any summing.

@@ -1,5 +1,5 @@
 -- What a table keeps once a notice is taken, and what it answers.
-use Rattle.std.proofs.Common.{◌≡◌, ℕ, zero, suc, ◌<◌, true, false, cond, ◌||◌, eqb, ltb, List, [], ◌∷◌, length, get_or, ℤ, pos, negsuc, nat_abs, Some, None, sym, ap, ◌∙◌, ⊎_elim, arith}
+use Rattle.std.proofs.Common.{◌≡◌, ℕ, zero, suc, ◌<◌, true, false, cond, ◌||◌, eqb, ltb, List, [], ◌∷◌, length, get_or, ℤ, pos, negsuc, nat_abs, IfSome, is_ok, is_some, MatchOption, MatchResult, Bor, Some, None, Ok, Err, Option, Result, sym, ap, ◌∙◌, subst, ⊎_elim, arith}
 use Rattle.std.specs.List.{slice_get, remove}
 use Rattle.std.proofs.ByRecursion.{All-get_or}
 use Rattle.std.proofs.lemmas.Option.{slice_get-get_or}
@@ -9,7 +9,11 @@ use Rattle.ordered.proofs.Laws.{only_before, same_back}
 use Rattle.ordered.proofs.Lexical.{lex_order}
 use Rattle.ordered.proofs.Removed.{removed_without, without_none}
 use Rattle.ordered.proofs.Rising.{before_later, none_same, rises_tail}
+use Rattle.std.specs.Option.{option_map}
+use Rattle.refusal.specs.Outcome.{Outcome}
+use Rattle.refusal.specs.declared.Refusal.{Refusal}
 use Rattle.refusal.specs.declared.Refusal.TheVariants.{NoRoom}
+use Rattle.refusal.proofs.Outcomes.{accepted, refused}
 use Rattle.market.specs.Figures.{most_notices}
 use Rattle.notices.specs.declared.notice.Notice.{Notice}
 use Rattle.notices.specs.Order.{notice_key, notice_before, notice_same, energy_of, is_zero}
@@ -84,3 +88,16 @@ never_none like xs k at got = let there = got ∙ slice_get-get_or xs k like at.
 
 pub nothing_like : (like : Notice) (xs : List Notice) → held notice_same like xs ≡ false → pos 0 ≡ energy_like like xs
 nothing_like like xs none = sym (none_like notice_same energy_of like xs (none_same (lex_order notice_key) like xs none))
+
+-- what is found of a notice like this one, and read at its place
+pub looked_like : (like : Notice) (xs : List Notice) (found : Option ℕ) (got : Option (Bor Notice)) (z : ℤ) → rises notice_before xs ≡ true → IfSome found (λ k. SameAt notice_same xs k like) → is_some found ≡ held notice_same like xs → MatchOption found (got ≡ None) (λ k. option_map (λ n. n.now) got ≡ slice_get xs k) → MatchOption got (z ≡ pos 0) (λ n. z ≡ energy_of n.now) → z ≡ energy_like like xs
+looked_like like xs None got z rising at test none e =
+    let nothing : z ≡ pos 0 = subst (λ g. MatchOption g (z ≡ pos 0) (λ n. z ≡ energy_of n.now)) none e in
+    nothing ∙ nothing_like like xs (sym test)
+looked_like like xs (Some k) None z rising at test got e = never_none like xs k at got
+looked_like like xs (Some k) (Some n) z rising at test got e = e ∙ got_like like n.now xs k rising at got
+
+-- what comes of a notice that is not zero: the list takes it, or has no room
+pub put_outcome : {E : Type 0} (n : Notice) (xs ys : List Notice) (space : ℕ) (put : Result (Unit {0}) E) (r : Result (Unit {0}) Refusal) → is_zero n ≡ false → space ≡ most_notices → is_ok put ≡ (ltb (length xs) space || held notice_same n xs) → ys ≡ cond (is_ok put) (placed notice_before n xs) xs → MatchResult put (λ x. r ≡ Ok x) (λ _. r ≡ Err NoRoom) → Outcome (notice_row n xs) r (ys ≡ xs) (λ _. ys ≡ with_notice n xs)
+put_outcome n xs ys space (Ok x) r some is room after e = rw e (accepted (notice_row n xs) _ _ x (taken_row n xs some space is room) (taken_kept n xs some space is ys after))
+put_outcome n xs ys space (Err _) r some is full after e = rw e (refused (notice_row n xs) _ _ NoRoom (full_row n xs some space is full) after)

@@ -1,10 +1,9 @@
 // A notice, and the order in which notices stand.
 ghost use Rattle.std.specs.Prelude.{◌≡◌};
 ghost use Rattle.notices.specs.Order.{notice_before, notice_same, is_zero, notice_key};
-ghost use Rattle.ordered.proofs.Lexical.{lex_order};
+ghost use Rattle.ordered.proofs.Lexical.{lex_key, tuples};
 
 use ordered::Ranked;
-use std::cmp::Ordering;
 use units::{KilowattHours, Party, Position};
 
 // What the sender buys from the counterparty in the hour; negative where it sells.
@@ -20,23 +19,22 @@ impl Notice {
     pub(crate) fn is_zero(self) -> bool
         ensures { result ≡ is_zero self }
     {
-        self.energy.0 == 0
+        self.energy == KilowattHours(0)
     }
 }
 
 impl Ranked for Notice {
+    type Key = (Position, Party, Party);
+
     ghost before = { notice_before };
 
     ghost same = { notice_same };
 
-    ghost order = { lex_order notice_key };
+    ghost key = { λ n. (n.hour, n.sender, n.counterparty) };
 
-    fn compare(&self, other: &Notice) -> Ordering {
-        let by_counterparty = self.counterparty.0.cmp(&other.counterparty.0);
-        let by_sender = self.sender.0.cmp(&other.sender.0);
-        self.hour
-            .0
-            .cmp(&other.hour.0)
-            .then(by_sender.then(by_counterparty))
+    ghost by_key = { lex_key notice_key (λ n. (n.hour, n.sender, n.counterparty)) (λ a b. Prim.simp tuples) };
+
+    fn key(&self) -> Self::Key {
+        (self.hour, self.sender, self.counterparty)
     }
 }

@@ -24,7 +24,7 @@ impl NoticeTable {
     pub fn has_place_for(&self, notice: &Notice) -> bool
         ensures { result ≡ place_for notice.now (kept self.now) }
     {
-        notice.is_zero() | (self.len() < MOST_NOTICES) | self.notices.find(notice).is_some()
+        notice.is_zero() || self.len() < MOST_NOTICES || self.notices.find(notice).is_some()
     }
 
     // Takes a notice: it replaces the earlier one of its sender for that counterparty and hour, and a zero removes it.
@@ -38,23 +38,18 @@ impl NoticeTable {
             }
             return Ok(());
         }
-        match self.notices.put(notice) {
-            Ok(()) => Ok(()),
-            Err(_) => Err(Refusal::NoRoom),
-        }
+        self.notices.put(notice).map_err(|_| Refusal::NoRoom)
     }
 
     // The energy of the kept notice of the same sender, counterparty and hour; 0 where none is kept.
     pub fn energy_like(&self, like: &Notice) -> KilowattHours
         ensures { result.0 ≡ energy_like like.now (kept self.now) }
     {
-        let Some(place) = self.notices.find(like) else {
-            return KilowattHours(0);
-        };
-        match self.notices.get(place) {
-            Some(notice) => notice.energy,
-            None => KilowattHours(0),
-        }
+        self.notices
+            .find(like)
+            .and_then(|place| self.notices.get(place))
+            .map(|notice| notice.energy)
+            .unwrap_or_default()
     }
 
     // How many are kept.

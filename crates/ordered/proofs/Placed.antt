@@ -1,10 +1,11 @@
 -- What a record put at its place makes of a list. Assumes nothing.
-use Rattle.std.proofs.Common.{◌≡◌, ℕ, suc, ◌+◌, ◌<◌, Bool, true, false, cond, ◌⊎◌, List, [], ◌∷◌, ◌++◌, length, get_or, take, drop, set, filter, sym, refl, ap, ◌∙◌, subst, inl, inr, arith}
-use Rattle.std.proofs.lemmas.List.Elements.{filter-append}
+use Rattle.std.proofs.Common.{◌≡◌, ℕ, suc, ◌+◌, ◌<◌, ◌≤◌, Bool, true, false, cond, ◌⊎◌, List, [], ◌∷◌, ◌++◌, length, get_or, take, drop, set, filter, sym, refl, ap, ◌∙◌, subst, inl, inr, arith}
+use Rattle.std.proofs.lemmas.List.Elements.{filter-append, recursion_from_All}
 use Rattle.std.proofs.ByRecursion.{All-append, all-has, all_has_itself, all_kept_by, All-weaker, has_append_left, has_append_right, kept_by_passes}
-use Rattle.std.proofs.lemmas.List.{append-nil, length-append, set-get_or, set_split, take-append-drop}
+use Rattle.std.proofs.lemmas.List.{append-nil, get_or-drop, get_or-take, length-append, length-drop, length-take, set-get_or, set_split, take-append-drop}
 use Rattle.std.proofs.lemmas.Bool.{both_ways, cond_both, cond-false, cond-true}
 use Rattle.std.specs.List.{insert, ContainsAt as Has, AllByRecursion}
+use Rattle.std.specs.List.Sorted.{IsPartitionPoint}
 use Rattle.ordered.specs.Order.{TotalOrder, held, placed, rises}
 use Rattle.ordered.proofs.Laws.{before_same, only_before, only_same, same_back, same_before, not_same_after, sides}
 use Rattle.ordered.proofs.Rising.{back_after, before_later, front_before, rises_cons, rises_join, rises_tail}
@@ -44,9 +45,13 @@ module _ {X : Type 0} {before same : X → X → Bool} (o : TotalOrder before sa
       ∙ rest-high in
       ap (λ ys. ys ++ x ∷ filter high (fs ++ (m ++ bs))) low-is ∙ ap (λ ys. fs ++ x ∷ ys) high_is
 
-  pub placed_inserted : (xs : List X) (i : ℕ) (x : X) → AllByRecursion (λ y. before y x ≡ true) (take i xs) → AllByRecursion (λ y. before x y ≡ true) (drop i xs) → placed before x xs ≡ insert xs i x
-  placed_inserted xs i x f b =
-      subst (λ ys. placed before x ys ≡ insert xs i x) (take-append-drop i xs) (between (take i xs) [] (drop i xs) x f tt b)
+  pub placed_inserted : (xs : List X) (k : ℕ) (x : X) → k ≤ length xs → IsPartitionPoint (λ y. before y x ≡ true) (λ y. before x y ≡ true) xs k → placed before x xs ≡ insert xs k x
+  placed_inserted xs k x within p =
+      let low : X → Type 0 = λ y. before y x ≡ true in
+      let high : X → Type 0 = λ y. before x y ≡ true in
+      let front : AllByRecursion low (take k xs) = recursion_from_All low (take k xs) (λ i d w. let l : i < k = omega (arith, length-take k xs) in rw (get_or-take k xs i d l) (p.0 i d (omega arith) l)) in
+      let back : AllByRecursion high (drop k xs) = recursion_from_All high (drop k xs) (λ i d w. rw (get_or-drop k xs i d) (p.1 (k + i) d (omega arith) (omega (arith, length-drop k xs)))) in
+      subst (λ ys. placed before x ys ≡ insert xs k x) (take-append-drop k xs) (between (take k xs) [] (drop k xs) x front tt back)
 
   pub placed_set : (xs : List X) (i : ℕ) (x d : X) → rises before xs ≡ true → i < length xs → same (get_or xs i d) x ≡ true → placed before x xs ≡ set xs i x
   placed_set xs i x d h w s =

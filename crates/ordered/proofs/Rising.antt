@@ -1,9 +1,10 @@
 -- Lists that rise, and what they hold. Assumes nothing.
-use Rattle.std.proofs.Common.{◌≡◌, ℕ, zero, suc, ◌+◌, ◌<◌, Bool, true, false, List, [], ◌∷◌, ◌++◌, length, get_or, take, drop, sym, refl, subst, inl, inr, add-one, arith}
-use Rattle.std.proofs.ByRecursion.{All-append, All-get_or, All-more, All-weaker}
-use Rattle.std.proofs.lemmas.List.{drop_more, take-append-drop}
-use Rattle.std.proofs.lemmas.Bool.{and_from, and_parts, both_ways, cases_order, or_from, or_left, or_parts, or_right}
+use Rattle.std.proofs.Common.{◌≡◌, ℕ, zero, suc, ◌<◌, Bool, true, false, List, [], ◌∷◌, ◌++◌, length, get_or, take, drop, refl, inl, inr, arith}
+use Rattle.std.proofs.ByRecursion.{All-append, All-get_or, All-weaker}
+use Rattle.std.proofs.lemmas.List.Elements.{recursion_from_All}
+use Rattle.std.proofs.lemmas.Bool.{and_from, and_parts, both_ways, cases_lt, cases_order, or_from, or_left, or_parts, or_right}
 use Rattle.std.specs.List.{AllByRecursion}
+use Rattle.std.specs.List.Sorted.{IsPartitionPoint}
 use Rattle.ordered.specs.Order.{TotalOrder, held, rises}
 use Rattle.ordered.proofs.Laws.{not_same_after, only_before, same_back}
 
@@ -73,28 +74,8 @@ module _ {X : Type 0} {before same : X → X → Bool} (o : TotalOrder before sa
         | inr (inr l) ↦ absurd (both_ways _ (not_same_after o _ _ (before_far xs j i d h l v)) st)
       ]
 
-  -- ---- a search by halves
-  -- x stands past the place m
-  pub past : (xs : List X) (m : ℕ) (x y : X) → rises before xs ≡ true → m < length xs → y ≡ get_or xs m y → before y x ≡ true → AllByRecursion (λ z. before z x ≡ true) (take (m + 1) xs)
-  past xs m x y h w e b =
-      let here : before (get_or xs m y) x ≡ true = subst (λ z. before z x ≡ true) e b in
-      All-more (λ z. before z x ≡ true) xs m y w (All-weaker (λ z. before z (get_or xs m y) ≡ true) (λ z. before z x ≡ true) (λ z p. o.before_on z (get_or xs m y) x p here) (take m xs) (front_before xs m y h w)) here
-
-  -- x stands before the place m
-  pub short : (xs : List X) (m : ℕ) (x y : X) → rises before xs ≡ true → m < length xs → y ≡ get_or xs m y → before x y ≡ true → AllByRecursion (λ z. before x z ≡ true) (drop m xs)
-  short xs m x y h w e b =
-      let here : before x (get_or xs m y) ≡ true = subst (λ z. before x z ≡ true) e b in
-      let rest : AllByRecursion (λ z. before x z ≡ true) (drop (suc m) xs) = All-weaker (λ z. before (get_or xs m y) z ≡ true) (λ z. before x z ≡ true) (λ z. o.before_on x (get_or xs m y) z here) (drop (suc m) xs) (back_after xs m y h w) in
-      subst (AllByRecursion (λ z. before x z ≡ true)) (sym (drop_more xs m y w)) (here, subst (λ n. AllByRecursion (λ z. before x z ≡ true) (drop n xs)) (sym (add-one m)) rest)
-
-  -- at the start nothing is left out, and at the end nothing is left
-  pub none_left_out : (P : X → Type 0) (xs : List X) → AllByRecursion P (drop (length xs) xs)
-  none_left_out P [] = tt
-  none_left_out P (x ∷ xs) = none_left_out P xs
-
-  pub not_held_between : (xs : List X) (k : ℕ) (x : X) → AllByRecursion (λ y. before y x ≡ true) (take k xs) → AllByRecursion (λ y. before x y ≡ true) (drop k xs) → held same x xs ≡ false
-  not_held_between xs k x f b =
-      let P : X → Type 0 = λ y. same y x ≡ false in
-      not_held x xs (subst (AllByRecursion P) (take-append-drop k xs) (All-append P (take k xs) (drop k xs)
-      (All-weaker (λ y. before y x ≡ true) P (λ y h. (only_before o y x h).0) (take k xs) f)
-      (All-weaker (λ y. before x y ≡ true) P (λ y h. not_same_after o x y h) (drop k xs) b)))
+  -- x is not held where each record stands before it or after it
+  pub not_held_between : (xs : List X) (k : ℕ) (x : X) → IsPartitionPoint (λ y. before y x ≡ true) (λ y. before x y ≡ true) xs k → held same x xs ≡ false
+  not_held_between xs k x p =
+      not_held x xs (recursion_from_All (λ y. same y x ≡ false) xs (λ i d w.
+      elim (cases_lt i k) [ inl l ↦ (only_before o _ x (p.0 i d (omega arith) l)).0 | inr l ↦ not_same_after o x _ (p.1 i d l w) ]))

@@ -1,6 +1,6 @@
-// The ordered list: its records stand in a `Vec` that never grows past the space reserved for it.
-ghost use Rattle.std.specs.Prelude.{◌≤◌, vec_len, vec_capacity};
-
+// The ordered list: its records stand in a `Vec` whose capacity, the space of the list, stays as it was reserved.
+// That they rise is each client's ghost field: a field here would ask `T: Ranked` of calls that need no order. No map, since
+// its memory is reserved once, and what is removed must give its place back.
 mod methods;
 mod seek;
 
@@ -11,7 +11,4 @@ pub struct Full;
 #[derive(Drop)]
 pub struct OrderedList<T> {
     records: Vec<T>,
-    space: usize,
-    ghost within: { vec_len records ≤ space },
-    ghost reserved: { space ≤ vec_capacity records },
 }

@@ -1,31 +1,32 @@
--- What a complete hour says of each party.
-use Rattle.std.proofs.Common.{◌≡◌, ℕ, zero, suc, ◌+◌, ◌<◌, true, false, ◌&&◌, ℤ, is_some, Option, refl, ap, ◌∙◌, ⊎_elim, add-one, arith}
-use Rattle.std.proofs.lemmas.Bool.{and_parts, and_from, both_ways, cases_Bool, cases_eq}
+-- Whether each of the first parties has both readings.
+use Rattle.std.proofs.Common.{◌≡◌, ℕ, zero, suc, ◌+◌, ◌&&◌, [], ◌∷◌, ◌++◌, map, Bool, true, false, ℤ, is_some, Option, sym, refl, ap, ◌∙◌, arith}
+use Rattle.std.specs.List.{list_all, range_with_len}
+use Rattle.std.proofs.lemmas.List.{map-id}
+use Rattle.std.proofs.lemmas.List.Folds.{list_all-append}
+use Rattle.std.proofs.lemmas.List.FromFn.{map-range_with_len_more}
 use Rattle.positions.specs.Tables.{complete_to}
 
+last_first : (a b : Bool) → (a && (b && true)) ≡ (b && a)
+last_first true true = refl
+last_first true false = refl
+last_first false true = refl
+last_first false false = refl
+
+one_more : (n : ℕ) → range_with_len 0 (suc n) ≡ range_with_len 0 n ++ (n ∷ [])
+one_more n =
+    let next : suc n ≡ n + 1 = omega arith in
+    sym (map-id (range_with_len 0 (suc n)))
+    ∙ ap (λ m. map (λ (p : ℕ). p) (range_with_len 0 m)) next
+    ∙ map-range_with_len_more (λ (p : ℕ). p) 0 n n (omega arith)
+    ∙ ap (λ ps. ps ++ (n ∷ [])) (map-id (range_with_len 0 n))
+
 module _ (f g : ℕ → Option ℤ) where
-  -- both readings of each party below n
-  pub complete_each : (n : ℕ) → complete_to n f g ≡ true → (p : ℕ) → p < n → (is_some (f p) ≡ true) × (is_some (g p) ≡ true)
-  unfolding complete_to
-  complete_each zero e p l = absurd (omega arith)
-  complete_each (suc n) e p l =
-      let parts = and_parts (is_some (f n) && is_some (g n)) (complete_to n f g) e in
-      ⊎_elim
-      (λ is. let here = and_parts (is_some (f n)) (is_some (g n)) parts.0 in (ap (λ k. is_some (f k)) is ∙ here.0, ap (λ k. is_some (g k)) is ∙ here.1))
-      (λ apart. complete_each n parts.1 p (omega arith))
-      (cases_eq p n)
+  both : ℕ → Bool
+  both p = is_some (f p) && is_some (g p)
 
-  pub complete_none : complete_to 0 f g ≡ true
-  unfolding complete_to
-  complete_none = refl
-
-  pub complete_more : (n : ℕ) → complete_to n f g ≡ true → (is_some (f n) && is_some (g n)) ≡ true → complete_to (n + 1) f g ≡ true
-  unfolding complete_to
-  complete_more n e here = rw add-one (and_from (is_some (f n) && is_some (g n)) (complete_to n f g) here e)
-
-  pub incomplete : (n p : ℕ) → p < n → (is_some (f p) && is_some (g p)) ≡ false → complete_to n f g ≡ false
-  incomplete n p l lacks =
-      ⊎_elim
-      (λ e. let each = complete_each n e p l in absurd (both_ways (is_some (f p) && is_some (g p)) lacks (and_from (is_some (f p)) (is_some (g p)) each.0 each.1)))
-      (λ e. e)
-      (cases_Bool (complete_to n f g))
+  pub complete_all : (n : ℕ) → list_all (λ p. is_some (f p) && is_some (g p)) (range_with_len 0 n) ≡ complete_to n f g
+  unfolding complete_to both
+  complete_all zero = refl
+  complete_all (suc n) =
+      ap (list_all both) (one_more n) ∙ list_all-append both (range_with_len 0 n) (n ∷ [])
+      ∙ last_first (list_all both (range_with_len 0 n)) (both n) ∙ ap (λ b. both n && b) (complete_all n)

@@ -1,16 +1,16 @@
 -- What a table holds for each position and party, and what a call leaves in it.
-use Rattle.std.specs.Prelude.{◌≡◌, ℕ, zero, suc, Bool, true, cond, ◌&&◌, ℤ, pos, is_some, Some, None, vec_items, Option, slice_index_or}
+use Rattle.std.specs.Prelude.{◌≡◌, ℕ, zero, suc, Bool, true, cond, ◌&&◌, ℤ, pos, is_some, Some, None, vec_items, Option, [], slice_index_or}
 use Rattle.integers.specs.Places.{at_party}
 use Rattle.positions.specs.declared.record.Meter.{Meter}
 use Rattle.positions.specs.declared.record.Meter.TheVariants.{Production, Consumption}
 use Rattle.positions.specs.declared.record.PositionRecord.{PositionRecord}
 use Rattle.positions.specs.declared.table.PositionTable.{PositionTable}
-use Rattle.positions.specs.Figures.{in_table, place_of}
+use Rattle.positions.specs.Figures.{in_table}
 use Rattle.positions.specs.Records.{no_record, plan_in, reading_in}
 
 -- the record of the position and party, an empty one outside the table
 unfoldable pub records_of : PositionTable → ℕ → ℕ → PositionRecord
-records_of t h p = cond (in_table h p) (slice_index_or (vec_items t.records) (place_of h p) no_record) no_record
+records_of t h p = cond (in_table h p) (slice_index_or (slice_index_or (vec_items t.hours) h []) p no_record) no_record
 
 -- what each party planned at each position; nothing outside the table
 abbrev pub plans_of : PositionTable → ℕ → ℕ → ℤ

@@ -1,6 +1,6 @@
 // What is known of one party in one hour.
 ghost use Rattle.std.specs.Prelude.{◌≡◌};
-ghost use Rattle.positions.specs.Records.{no_record, both_read, with_reading};
+ghost use Rattle.positions.specs.Records.{both_read, with_reading};
 
 use units::KilowattHours;
 
@@ -10,7 +10,8 @@ pub enum Meter {
     Consumption,
 }
 
-#[derive(Clone, Copy)]
+// By default nothing planned and nothing read.
+#[derive(Clone, Copy, Default)]
 pub struct PositionRecord {
     pub plan: KilowattHours,
     pub produced: Option<KilowattHours>,
@@ -18,17 +19,6 @@ pub struct PositionRecord {
 }
 
 impl PositionRecord {
-    // Nothing planned and nothing read.
-    pub(crate) fn empty() -> PositionRecord
-        ensures { result ≡ no_record }
-    {
-        PositionRecord {
-            plan: KilowattHours(0),
-            produced: None,
-            consumed: None,
-        }
-    }
-
     // Takes a reading of one of the meters; a later one replaces it.
     pub(crate) fn read(&mut self, meter: Meter, energy: KilowattHours)
         ensures { self.new ≡ with_reading meter energy self.old }
@@ -42,6 +32,6 @@ impl PositionRecord {
     pub(crate) fn has_both(&self) -> bool
         ensures { result ≡ both_read self.now }
     {
-        self.produced.is_some() & self.consumed.is_some()
+        self.produced.is_some() && self.consumed.is_some()
     }
 }

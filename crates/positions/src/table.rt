@@ -1,11 +1,13 @@
-// The table: a record for each hour and party, in order of hour, then party.
-ghost use Rattle.std.specs.Prelude.{◌≡◌, vec_len};
-ghost use Rattle.positions.specs.Figures.{places};
+// The table: for each hour, a record of each party.
+ghost use Rattle.std.specs.Prelude.{◌≡◌, length, vec_len, All};
+ghost use Rattle.market.specs.Figures.{most_hours, most_parties};
 
 use crate::record::PositionRecord;
+use market::figures::MOST_PARTIES;
 
 #[derive(Drop)]
 pub struct PositionTable {
-    pub(crate) records: Vec<PositionRecord>,
-    ghost full: { vec_len records ≡ places },
+    pub(crate) hours: Vec<[PositionRecord; MOST_PARTIES]>,
+    ghost full: { vec_len hours ≡ most_hours },
+    ghost even: { All (λ parties. length parties ≡ most_parties) hours.items },
 }

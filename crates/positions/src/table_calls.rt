@@ -1,8 +1,8 @@
 // What a table of positions does.
-ghost use Rattle.std.specs.Prelude.{◌≡◌, ◌&&◌, is_some, IfOk, if◌then◌else◌, Some, None};
+ghost use Rattle.std.specs.Prelude.{◌≡◌, ◌&&◌, is_some, IfOk};
 ghost use Rattle.std.specs.Option.{option_map};
 ghost use Rattle.positions.specs.declared.record.Meter.TheVariants.{Production, Consumption};
-ghost use Rattle.positions.specs.Figures.{in_table, place_of};
+ghost use Rattle.positions.specs.Figures.{in_table};
 ghost use Rattle.positions.specs.Tables.{plans_of, readings_of, complete_to, Empty, Planned, Read};
 
 use crate::record::{Meter, PositionRecord};
@@ -11,17 +11,12 @@ use market::figures::{MOST_HOURS, MOST_PARTIES};
 use std::alloc::{AllocError, Global};
 use units::{KilowattHours, Party, Position};
 
-const PLACES: usize = MOST_HOURS * MOST_PARTIES;
-
-// Where the record of the hour and party stands; nowhere past the last hour or party.
-fn place_of(hour: Position, party: Party) -> Option<usize>
-    ensures { result ≡ (if in_table hour.0 party.0 then Some (place_of hour.0 party.0) else None) }
+// Whether the table has a record of the hour and party. A write tests and indexes, since of what `get_mut` leaves in an
+// array only the length is known.
+fn in_table(hour: Position, party: Party) -> bool
+    ensures { result ≡ in_table hour.0 party.0 }
 {
-    if hour.0 < MOST_HOURS && party.0 < MOST_PARTIES {
-        Some(hour.0 * MOST_PARTIES + party.0)
-    } else {
-        None
-    }
+    hour.0 < MOST_HOURS && party.0 < MOST_PARTIES
 }
 
 impl PositionTable {
@@ -29,8 +24,8 @@ impl PositionTable {
     pub fn new(heap: Global) -> Result<PositionTable, AllocError>
         ensures { IfOk result Empty }
     {
-        let records = vec![in heap; PositionRecord::empty(); PLACES]?;
-        Ok(PositionTable { records })
+        let hours = vec![in heap; [PositionRecord::default(); MOST_PARTIES]; MOST_HOURS]?;
+        Ok(PositionTable { hours })
     }
 
     // The record of the hour and party; an empty one outside the table.
@@ -39,10 +34,11 @@ impl PositionTable {
         ensures produced { option_map (λ e. e.0) result.produced ≡ readings_of Production self.now hour.0 party.0 }
         ensures consumed { option_map (λ e. e.0) result.consumed ≡ readings_of Consumption self.now hour.0 party.0 }
     {
-        match place_of(hour, party) {
-            Some(place) => self.records[place],
-            None => PositionRecord::empty(),
-        }
+        self.hours
+            .get(hour.0)
+            .and_then(|parties| parties.get(party.0))
+            .copied()
+            .unwrap_or_default()
     }
 
     // Whether both readings of the party are there.
@@ -56,20 +52,15 @@ impl PositionTable {
     pub fn complete(&self, hour: Position, parties: usize) -> bool
         ensures { result ≡ complete_to parties (readings_of Production self.now hour.0) (readings_of Consumption self.now hour.0) }
     {
-        for party in 0..parties {
-            if !self.has_both(hour, Party(party)) {
-                return false;
-            }
-        }
-        true
+        (0..parties).all(|party| self.has_both(hour, Party(party)))
     }
 
     // Plans the energy of the party in the hour; outside the table it does nothing.
     pub fn set_plan(&mut self, hour: Position, party: Party, energy: KilowattHours)
         ensures { Planned hour.0 party.0 energy.0 self.old self.new }
     {
-        if let Some(place) = place_of(hour, party) {
-            self.records[place].plan = energy;
+        if in_table(hour, party) {
+            self.hours[hour.0][party.0].plan = energy;
         }
     }
 
@@ -77,8 +68,8 @@ impl PositionTable {
     pub fn set_reading(&mut self, hour: Position, party: Party, meter: Meter, energy: KilowattHours)
         ensures { Read meter hour.0 party.0 energy.0 self.old self.new }
     {
-        if let Some(place) = place_of(hour, party) {
-            self.records[place].read(meter, energy);
+        if in_table(hour, party) {
+            self.hours[hour.0][party.0].read(meter, energy);
         }
     }
 }

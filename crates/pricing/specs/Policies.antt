@@ -10,6 +10,9 @@ use Rattle.pricing.specs.declared.Prices.{Prices}
 abbrev pub four : Price → Price → Price → Price → Prices
 four a b c d = record { production = record { surplus = a; shortfall = b }; consumption_and_trade = record { surplus = c; shortfall = d } }
 
+abbrev pub pair_at : Price → PricePair
+pair_at p = record { surplus = p; shortfall = p }
+
 abbrev pub pair_for_all : PricePair → Prices
 pair_for_all p = record { production = p; consumption_and_trade = p }
 

@@ -5,7 +5,7 @@
 ghost use Rattle.std.specs.Prelude.{◌≡◌};
 ghost use Rattle.pricing.specs.declared.Facts.{Facts};
 ghost use Rattle.pricing.specs.declared.Prices.{Prices};
-ghost use Rattle.pricing.specs.Policies.{all_at, pair_for_all, priced_by, Regular, Bounded, NoSurplusAboveAShortfall, AroundTheOneWay, ShowsRules};
+ghost use Rattle.pricing.specs.Policies.{all_at, pair_at, pair_for_all, priced_by, Regular, Bounded, NoSurplusAboveAShortfall, AroundTheOneWay, ShowsRules};
 
 use units::{KilowattHours, Price};
 
@@ -37,6 +37,18 @@ pub struct PricePair {
     pub shortfall: Price,
 }
 
+// One price for both.
+impl From<Price> for PricePair {
+    fn from(price: Price) -> PricePair
+        ensures { result ≡ pair_at price }
+    {
+        PricePair {
+            surplus: price,
+            shortfall: price,
+        }
+    }
+}
+
 #[derive(Clone, Copy)]
 pub struct Prices {
     pub production: PricePair,
@@ -58,10 +70,7 @@ impl Prices {
     pub fn all_at(price: Price) -> Prices
         ensures { result ≡ all_at price }
     {
-        Prices::pair_for_all(PricePair {
-            surplus: price,
-            shortfall: price,
-        })
+        Prices::pair_for_all(PricePair::from(price))
     }
 }
 

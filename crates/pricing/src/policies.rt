@@ -10,6 +10,8 @@ ghost use Rattle.pricing.specs.DutchRules.{dutch_rules};
 ghost use Rattle.std.proofs.Common.{rules};
 
 use crate::{Facts, Policy, PricePair, Prices};
+use std::cmp::Ordering;
+use units::KilowattHours;
 
 // Consumption and trade have the price of the net energy's side. Production has it for an imbalance that added to the
 // need on that side; one that eased it is settled at spot.
@@ -31,34 +33,26 @@ impl Policy for Nordic {
             spot,
             up_price: up,
             down_price: down,
+            net_energy,
             ..
         } = *facts;
-        let net = facts.net_energy.0;
-        if net > 0 {
-            return Prices {
+        match net_energy.cmp(&KilowattHours(0)) {
+            Ordering::Greater => Prices {
                 production: PricePair {
                     surplus: spot,
                     shortfall: up,
                 },
-                consumption_and_trade: PricePair {
-                    surplus: up,
-                    shortfall: up,
-                },
-            };
-        }
-        if net < 0 {
-            return Prices {
+                consumption_and_trade: PricePair::from(up),
+            },
+            Ordering::Less => Prices {
                 production: PricePair {
                     surplus: down,
                     shortfall: spot,
                 },
-                consumption_and_trade: PricePair {
-                    surplus: down,
-                    shortfall: down,
-                },
-            };
+                consumption_and_trade: PricePair::from(down),
+            },
+            Ordering::Equal => Prices::all_at(spot),
         }
-        Prices::all_at(spot)
     }
 }
 
@@ -90,6 +84,7 @@ impl Policy for Dutch {
 }
 
 // One of two policies, chosen while the program runs.
+// It owns what it holds: a `dyn Policy` would need a heap or a lifetime, and would be no plainer.
 #[derive(Drop)]
 pub enum Either<P, Q> {
     First(P),

@@ -18,8 +18,7 @@ abbrev pub arrived : ℕ → Activation → Activation
 arrived n a =
     record {
       hour = a.hour;
-      first_minute = a.first_minute;
-      last_minute = a.last_minute;
+      minutes = a.minutes;
       arrival = n;
       party = a.party;
       portfolio = a.portfolio;

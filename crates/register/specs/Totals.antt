@@ -1,5 +1,7 @@
 -- Totals of energy over a list of activations.
 use Rattle.std.specs.Prelude.{◌≡◌, ℕ, ◌-◌, ◌^◌, ◌≤◌, min, Bool, true, false, cond, ◌&&◌, List, length, ℤ, pos, ◌-ℤ◌, sum_by, ◌==◌}
+use Rattle.std.specs.Borrow.{Bor}
+use Rattle.std.specs.Fn.{FnReturnsAt, Shared}
 use Rattle.units.specs.declared.Position.{Position}
 use Rattle.units.specs.declared.Party.{Party}
 use Rattle.market.specs.declared.words.Activation.{Activation}
@@ -8,8 +10,6 @@ use Rattle.market.specs.declared.words.Kind.{Kind}
 use Rattle.market.specs.declared.words.Kind.TheVariants.{Listed, Special}
 use Rattle.market.specs.declared.words.Portfolio.{Portfolio}
 use Rattle.market.specs.declared.words.Portfolio.TheVariants.{Production, ConsumptionAndTrade}
-use Rattle.register.specs.declared.totals.Selection.{Selection}
-use Rattle.register.specs.declared.totals.Selection.TheVariants.{Listed as ListedOf, Account}
 use Rattle.market.specs.Words.{energy_of, same_direction}
 
 abbrev pub of_hour : Position → Activation → Bool
@@ -69,7 +69,6 @@ pub record Supplement (activations : List Activation) (up down : ℕ) (z : ℤ) 
   pub capped : z ≡ pos (min up greatest_total) -ℤ pos (min down greatest_total)
   pub exact : Few activations → z ≡ pos up -ℤ pos down
 
--- the activations that the loop over them counts
-abbrev pub selects : Selection → Activation → Bool
-selects (ListedOf hour) a = listed hour a
-selects (Account hour party portfolio) a = of_account hour party portfolio a
+-- the closure tells of each activation whether it counts
+abbrev pub Tells : {F : Type 0} → Shared F (Bor Activation × Unit {0}) Bool → F → (Activation → Bool) → Type 0
+Tells g f counts = (a : Activation) (r : Bool) → FnReturnsAt g f a r → r ≡ counts a

@@ -9,6 +9,7 @@ ghost use Rattle.register.specs.Arrivals.{arrived_below};
 use market::Activation;
 use ordered::OrderedList;
 
+// The table of notices holds its list alike, but what else holds of the two, and their calls, differ.
 #[derive(Drop)]
 pub struct Register {
     pub(crate) activations: OrderedList<Activation>,

@@ -1,43 +1,26 @@
 // Totals of energy over activations.
 ghost use Rattle.std.specs.Prelude.{◌≡◌};
-ghost use Rattle.register.specs.Totals.{selects, total_of, Total, Supplement, listed_energy, account_energy};
+ghost use Rattle.register.specs.Totals.{Tells, total_of, Total, Supplement, listed_energy, account_energy};
 ghost use Rattle.market.specs.declared.words.Direction.TheVariants.{Up, Down};
 
 use market::{Activation, Direction, Kind, Portfolio};
 use units::{KilowattHours, Party, Position};
 
-// Which activations count.
-#[derive(Clone, Copy)]
-enum Selection {
-    Listed(Position),
-    Account(Position, Party, Portfolio),
-}
-
-impl Selection {
-    fn counts(self, activation: &Activation) -> bool
-        ensures { result ≡ selects self activation.now }
-    {
-        match self {
-            Selection::Listed(hour) => activation.hour == hour && activation.kind == Kind::Listed,
-            Selection::Account(hour, party, portfolio) => {
-                activation.hour == hour
-                    && activation.party == party
-                    && activation.portfolio == portfolio
-            }
-        }
-    }
-}
-
 // The upward and the downward energy of the activations that count.
-fn totals(activations: &[Activation], selection: Selection) -> (KilowattHours, KilowattHours)
-    ensures up { Total activations.now (total_of (selects selection) Up activations.now) result.0.0 }
-    ensures down { Total activations.now (total_of (selects selection) Down activations.now) result.1.0 }
+fn totals<F: Fn(&Activation) -> bool>(
+    activations: &[Activation],
+    counts: F,
+) -> (KilowattHours, KilowattHours)
+    requires { F.IsAlwaysCallable counts }
+    ensures up { (test : _) → Tells F.Fn counts test → Total activations.now (total_of test Up activations.now) result.0.0 }
+    ensures down { (test : _) → Tells F.Fn counts test → Total activations.now (total_of test Down activations.now) result.1.0 }
 {
     let mut up = 0i64;
     let mut down = 0i64;
+    // A rule of the project: energies are summed by a loop with an index over the records.
     for place in 0..activations.len() {
-        let activation = activations[place];
-        if selection.counts(&activation) {
+        let activation = &activations[place];
+        if counts(activation) {
             let KilowattHours(energy) = activation.energy();
             match activation.direction {
                 Direction::Up => up = up.saturating_add(energy),
@@ -53,7 +36,9 @@ pub fn listed_totals(activations: &[Activation], hour: Position) -> (KilowattHou
     ensures up { Total activations.now (listed_energy hour Up activations.now) result.0.0 }
     ensures down { Total activations.now (listed_energy hour Down activations.now) result.1.0 }
 {
-    totals(activations, Selection::Listed(hour))
+    totals(activations, |activation| {
+        activation.hour == hour && activation.kind == Kind::Listed
+    })
 }
 
 // The upward less the downward energy of all of the party's activations in that portfolio and hour.
@@ -65,6 +50,8 @@ pub fn supplement(
 ) -> KilowattHours
     ensures { Supplement activations.now (account_energy hour party portfolio Up activations.now) (account_energy hour party portfolio Down activations.now) result.0 }
 {
-    let (up, down) = totals(activations, Selection::Account(hour, party, portfolio));
+    let (up, down) = totals(activations, |activation| {
+        activation.hour == hour && activation.party == party && activation.portfolio == portfolio
+    });
     KilowattHours(up.0 - down.0)
 }

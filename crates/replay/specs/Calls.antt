@@ -38,6 +38,14 @@ energy_in (Accepted receipt) = pos 0
 energy_in (Activated receipt energy) = energy.0
 energy_in (Energy energy) = energy.0
 
+-- what the caller of an accepted call is told, by the entry that the call became
+abbrev pub told : Entry → Answer
+told (journal.Entered party) = Entered (record { 0 = party })
+told (journal.BidAccepted offer receipt) = Accepted (record { 0 = receipt })
+told (journal.Activated hour direction first last receipt energy) = Activated (record { 0 = receipt }) (record { 0 = energy })
+told (journal.Special activation energy) = Energy (record { 0 = energy })
+told _ = Done
+
 abbrev pub planned_row : Figures → PlannedCall → Option Refusal
 planned_row f Enter = enter_refused f
 planned_row f (PlannedPlan hour party energy) = plan_refused f hour.0 party.0 energy.0
@@ -57,8 +65,8 @@ running_row f (Clock instant) = clock_refused f instant.0
 running_row f (Bid offer) = bid_refused f offer
 running_row f (Withdraw receipt) = withdraw_refused f receipt.0
 running_row f (Hold receipt held) = hold_refused f receipt.0
-running_row f (Activate hour direction first last) = activate_refused f hour.0 direction first last
-running_row f (Special offer first last) = special_refused f (special_of offer first last)
+running_row f (Activate hour direction minutes) = activate_refused f hour.0 direction minutes.first minutes.last
+running_row f (Special offer minutes) = special_refused f (special_of offer minutes.first minutes.last)
 
 abbrev pub running_entry : RunningCall → Answer → Entry
 running_entry (Plan hour party energy) answer = journal.Plan hour.0 party.0 energy.0
@@ -67,8 +75,8 @@ running_entry (Clock instant) answer = journal.Clock instant.0
 running_entry (Bid offer) answer = journal.BidAccepted offer (receipt_in answer)
 running_entry (Withdraw receipt) answer = journal.Withdrawn receipt.0
 running_entry (Hold receipt held) answer = journal.Hold receipt.0 held
-running_entry (Activate hour direction first last) answer = journal.Activated hour direction first last (receipt_in answer) (energy_in answer)
-running_entry (Special offer first last) answer = journal.Special (special_of offer first last) (energy_in answer)
+running_entry (Activate hour direction minutes) answer = journal.Activated hour direction minutes.first minutes.last (receipt_in answer) (energy_in answer)
+running_entry (Special offer minutes) answer = journal.Special (special_of offer minutes.first minutes.last) (energy_in answer)
 
 abbrev pub metered_row : {P : Type 0} → Figures → MeteredCall P → Option Refusal
 metered_row f (Read hour party meter energy) = reading_refused f hour.0 party.0 energy.0

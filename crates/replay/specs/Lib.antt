@@ -1,4 +1,3 @@
-pub mod Answers
 pub mod Calls
 pub mod Runs
 pub mod Law

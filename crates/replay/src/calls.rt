@@ -1,13 +1,10 @@
-// The calls of each stage, and the answers of those that are accepted.
-ghost use Rattle.std.specs.Prelude.{◌≡◌};
-ghost use Rattle.replay.specs.Answers.{done_as};
-
+// The calls of each stage, and the answers of those that are accepted. A script is data, of which the law of a run speaks:
+// so these are enums, and no closures.
 use calendar::Instant;
 use ladder::Offer;
-use market::Direction;
+use market::{Direction, Minutes};
 use notices::Notice;
 use positions::Meter;
-use refusal::Refusal;
 use units::{KilowattHours, Party, Position, Receipt};
 
 #[derive(Clone, Copy)]
@@ -18,6 +15,7 @@ pub enum PlannedCall {
     Clock(Instant),
 }
 
+// Its first three are calls of a planned day too: an enum of their own inside both would only lengthen each script.
 #[derive(Clone, Copy)]
 pub enum RunningCall {
     Plan(Position, Party, KilowattHours),
@@ -27,9 +25,8 @@ pub enum RunningCall {
     Withdraw(Receipt),
     // Whether the bid is held from now on, or released.
     Hold(Receipt, bool),
-    // The first minute and the last.
-    Activate(Position, Direction, u8, u8),
-    Special(Offer, u8, u8),
+    Activate(Position, Direction, Minutes),
+    Special(Offer, Minutes),
 }
 
 // Each hour may be settled under a policy of its own.
@@ -46,14 +43,4 @@ pub enum Answer {
     Accepted(Receipt),
     Activated(Receipt, KilowattHours),
     Energy(KilowattHours),
-}
-
-// The answer of a call that has nothing to tell but that it was accepted.
-pub(crate) fn done(res: Result<(), Refusal>) -> Result<Answer, Refusal>
-    ensures { result ≡ done_as res }
-{
-    match res {
-        Ok(()) => Ok(Answer::Done),
-        Err(refusal) => Err(refusal),
-    }
 }

@@ -2,6 +2,7 @@
 #![tactic(auto)]
 
 mod calls;
+mod making;
 mod metering;
 mod planning;
 mod replaying;

@@ -3,10 +3,8 @@ ghost use Rattle.std.specs.Prelude.{IfOk};
 ghost use Rattle.replay.specs.Law.{Law};
 
 use crate::calls::{MeteredCall, PlannedCall, RunningCall};
-use crate::metering::run_metered;
-use crate::planning::run_planned;
+use crate::making::make_all;
 use crate::run::Replay;
-use crate::running::run_running;
 use calendar::Date;
 use day::PlannedDay;
 use pricing::Policy;
@@ -25,11 +23,11 @@ pub fn replay<P: Policy>(
     ensures { IfOk result (Law P.meaning date prices.now planned.now running.now metered.now) }
 {
     let mut day = PlannedDay::open(heap, date, prices)?;
-    let planned_answers = run_planned(heap, &mut day, planned)?;
+    let planned_answers = make_all(heap, &mut day, planned)?;
     let mut day = day.start();
-    let running_answers = run_running(heap, &mut day, running)?;
+    let running_answers = make_all(heap, &mut day, running)?;
     let mut day = day.finish();
-    let metered_answers = run_metered(heap, &mut day, metered)?;
+    let metered_answers = make_all(heap, &mut day, metered)?;
     Ok(Replay {
         day,
         planned: planned_answers,

@@ -1,5 +1,5 @@
 -- The rows of each call, top first: the first that applies refuses. Assumes nothing.
-use Rattle.std.specs.Prelude.{ℕ, Bool, not, ◌&&◌, ℤ, pos, neg_ℤ, Some, None, Option}
+use Rattle.std.specs.Prelude.{ℕ, Bool, not, ◌&&◌, ℤ, pos, neg_ℤ, Some, None, Ok, Err, Option, Result}
 use Rattle.refusal.specs.declared.Refusal.{Refusal}
 use Rattle.refusal.specs.declared.Refusal.TheVariants.{NotInDay, UnknownParty, WrongPair, OutOfRange, TooLate, NoRoom, WrongSideOfSpot, NoSuchBid, AlreadySettled, ReadingMissing}
 use Rattle.refusal.specs.Rows.{row}
@@ -10,6 +10,11 @@ use Rattle.ladder.specs.declared.offer.Offer.{Offer}
 use Rattle.notices.specs.declared.notice.Notice.{Notice}
 use Rattle.timetable.specs.Opening.{Times, entered, gate_closed, in_day, is_past}
 use Rattle.rows.specs.Tests.{between, bid_fits, known, minutes_fit, right_side, special_fits, wrong_pair}
+
+-- what a check answers: the refusal of the row that applies, or that none does
+abbrev pub checked : Option Refusal → Result Unit Refusal
+checked (Some refusal) = Err refusal
+checked None = Ok tt
 
 -- a plan of the energy x
 abbrev pub plan_row : Times → ℕ → ℕ → ℤ → Option Refusal
@@ -68,7 +73,7 @@ special_row t a room =
     row (not (in_day t a.hour.0)) NotInDay
     (row (not (entered t a.party.0)) UnknownParty
     (row (not (special_fits a)) OutOfRange
-    (row (is_past t a.hour.0 a.first_minute) TooLate
+    (row (is_past t a.hour.0 a.minutes.first) TooLate
     (row (not room) NoRoom
     None))))
 

@@ -33,7 +33,7 @@ abbrev pub bid_fits : ℕ → Price → Bool
 bid_fits volume price = nat_le least_bid_volume volume && (nat_le volume greatest_bid_volume && within_limit price)
 
 abbrev pub special_fits : Activation → Bool
-special_fits a = minutes_fit a.first_minute a.last_minute && (nat_le least_special_volume a.volume.0 && (nat_le a.volume.0 greatest_special_volume && within_limit a.price))
+special_fits a = minutes_fit a.minutes.first a.minutes.last && (nat_le least_special_volume a.volume.0 && (nat_le a.volume.0 greatest_special_volume && within_limit a.price))
 
 -- upward spot or more, downward spot or less
 abbrev pub right_side : Direction → Price → Price → Bool

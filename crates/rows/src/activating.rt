@@ -1,64 +1,57 @@
 // Activations: of the first free bid, and special ones.
-ghost use Rattle.std.specs.Prelude.{◌≡◌};
+ghost use Rattle.std.specs.Prelude.{◌≡◌, is_some};
 ghost use Rattle.timetable.specs.View.{times};
-ghost use Rattle.rows.specs.Rows.{activate_row, special_row};
+ghost use Rattle.rows.specs.Rows.{checked, activate_row, special_row};
 
+use crate::asking::{check_hour, check_party};
 use crate::fits::{minutes_fit, special_fits};
-use market::Activation;
+use market::{Activation, Bid, Minutes};
 use refusal::Refusal;
 use timetable::Timetable;
 use units::Position;
 
-// `room`: there is room for one more activation; `found`: there is a bid to activate.
-pub fn activate_refusal(
+// `room`: there is room for one more activation; `found`: the bid to activate.
+pub fn check_activate(
     timetable: &Timetable,
     hour: Position,
-    first: u8,
-    last: u8,
+    minutes: Minutes,
     room: bool,
-    found: bool,
-) -> Option<Refusal>
-    ensures { result ≡ activate_row (times timetable.now) hour.0 first last room found }
+    found: Option<Bid>,
+) -> Result<(), Refusal>
+    ensures { result ≡ checked (activate_row (times timetable.now) hour.0 minutes.first minutes.last room (is_some found)) }
 {
-    if !timetable.has_hour(hour) {
-        return Some(Refusal::NotInDay);
+    check_hour(timetable, hour)?;
+    if !minutes_fit(minutes) {
+        return Err(Refusal::OutOfRange);
     }
-    if !minutes_fit(first, last) {
-        return Some(Refusal::OutOfRange);
+    if timetable.is_past(hour, minutes.first) {
+        return Err(Refusal::TooLate);
     }
-    if timetable.is_past(hour, first) {
-        return Some(Refusal::TooLate);
+    // Room counts only for a bid that is found.
+    found.ok_or(Refusal::NoSuchBid)?;
+    if !room {
+        return Err(Refusal::NoRoom);
     }
-    if found & !room {
-        return Some(Refusal::NoRoom);
-    }
-    if !found {
-        return Some(Refusal::NoSuchBid);
-    }
-    None
+    Ok(())
 }
 
-pub fn special_refusal(
+pub fn check_special(
     timetable: &Timetable,
     activation: &Activation,
     room: bool,
-) -> Option<Refusal>
-    ensures { result ≡ special_row (times timetable.now) activation.now room }
+) -> Result<(), Refusal>
+    ensures { result ≡ checked (special_row (times timetable.now) activation.now room) }
 {
-    if !timetable.has_hour(activation.hour) {
-        return Some(Refusal::NotInDay);
-    }
-    if !timetable.has_party(activation.party) {
-        return Some(Refusal::UnknownParty);
-    }
+    check_hour(timetable, activation.hour)?;
+    check_party(timetable, activation.party)?;
     if !special_fits(activation) {
-        return Some(Refusal::OutOfRange);
+        return Err(Refusal::OutOfRange);
     }
-    if timetable.is_past(activation.hour, activation.first_minute) {
-        return Some(Refusal::TooLate);
+    if timetable.is_past(activation.hour, activation.minutes.first) {
+        return Err(Refusal::TooLate);
     }
     if !room {
-        return Some(Refusal::NoRoom);
+        return Err(Refusal::NoRoom);
     }
-    None
+    Ok(())
 }

@@ -1,26 +1,26 @@
-// Questions about an hour or a party.
+// Questions about an hour or a party, with which most other calls begin.
 ghost use Rattle.std.specs.Prelude.{◌≡◌};
 ghost use Rattle.timetable.specs.View.{times};
-ghost use Rattle.rows.specs.Rows.{account_row, facts_row};
+ghost use Rattle.rows.specs.Rows.{account_row, checked, facts_row};
 
 use refusal::Refusal;
 use timetable::Timetable;
 use units::{Party, Position};
 
-pub fn facts_refusal(timetable: &Timetable, hour: Position) -> Option<Refusal>
-    ensures { result ≡ facts_row (times timetable.now) hour.0 }
+pub fn check_hour(timetable: &Timetable, hour: Position) -> Result<(), Refusal>
+    ensures { result ≡ checked (facts_row (times timetable.now) hour.0) }
 {
     if !timetable.has_hour(hour) {
-        return Some(Refusal::NotInDay);
+        return Err(Refusal::NotInDay);
     }
-    None
+    Ok(())
 }
 
-pub fn account_refusal(timetable: &Timetable, party: Party) -> Option<Refusal>
-    ensures { result ≡ account_row (times timetable.now) party.0 }
+pub fn check_party(timetable: &Timetable, party: Party) -> Result<(), Refusal>
+    ensures { result ≡ checked (account_row (times timetable.now) party.0) }
 {
     if !timetable.has_party(party) {
-        return Some(Refusal::UnknownParty);
+        return Err(Refusal::UnknownParty);
     }
-    None
+    Ok(())
 }

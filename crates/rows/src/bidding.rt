@@ -1,8 +1,9 @@
 // Bids, and the standing bids that are withdrawn.
 ghost use Rattle.std.specs.Prelude.{◌≡◌};
 ghost use Rattle.timetable.specs.View.{times};
-ghost use Rattle.rows.specs.Rows.{bid_row, withdraw_row};
+ghost use Rattle.rows.specs.Rows.{checked, bid_row, withdraw_row};
 
+use crate::asking::{check_hour, check_party};
 use crate::fits::{bid_fits, is_right_side};
 use ladder::Offer;
 use market::Bid;
@@ -10,39 +11,33 @@ use refusal::Refusal;
 use timetable::Timetable;
 
 // `room`: there is room for one more bid and one more receipt.
-pub fn bid_refusal(timetable: &Timetable, offer: &Offer, room: bool) -> Option<Refusal>
-    ensures { result ≡ bid_row (times timetable.now) offer.now room }
+pub fn check_bid(timetable: &Timetable, offer: &Offer, room: bool) -> Result<(), Refusal>
+    ensures { result ≡ checked (bid_row (times timetable.now) offer.now room) }
 {
-    if !timetable.has_hour(offer.hour) {
-        return Some(Refusal::NotInDay);
-    }
-    if !timetable.has_party(offer.party) {
-        return Some(Refusal::UnknownParty);
-    }
+    check_hour(timetable, offer.hour)?;
+    check_party(timetable, offer.party)?;
     if !bid_fits(offer.volume, offer.price) {
-        return Some(Refusal::OutOfRange);
+        return Err(Refusal::OutOfRange);
     }
     if timetable.gate_closed(offer.hour) {
-        return Some(Refusal::TooLate);
+        return Err(Refusal::TooLate);
     }
     if !room {
-        return Some(Refusal::NoRoom);
+        return Err(Refusal::NoRoom);
     }
     if !is_right_side(offer.direction, timetable.spot(offer.hour), offer.price) {
-        return Some(Refusal::WrongSideOfSpot);
+        return Err(Refusal::WrongSideOfSpot);
     }
-    None
+    Ok(())
 }
 
 // `standing`: the standing bid with the receipt that was named.
-pub fn withdraw_refusal(timetable: &Timetable, standing: Option<Bid>) -> Option<Refusal>
-    ensures { result ≡ withdraw_row (times timetable.now) standing }
+pub fn check_withdraw(timetable: &Timetable, standing: Option<Bid>) -> Result<(), Refusal>
+    ensures { result ≡ checked (withdraw_row (times timetable.now) standing) }
 {
-    let Some(bid) = standing else {
-        return Some(Refusal::NoSuchBid);
-    };
+    let bid = standing.ok_or(Refusal::NoSuchBid)?;
     if timetable.gate_closed(bid.hour) {
-        return Some(Refusal::TooLate);
+        return Err(Refusal::TooLate);
     }
-    None
+    Ok(())
 }

@@ -1,27 +1,21 @@
 // The tests that several calls share.
 ghost use Rattle.std.specs.Prelude.{◌≡◌};
 ghost use Rattle.timetable.specs.View.{times};
-ghost use Rattle.rows.specs.Tests.{between, bid_fits, known, minutes_fit, outside, right_side, special_fits};
+ghost use Rattle.rows.specs.Tests.{bid_fits, known, minutes_fit, outside, right_side, special_fits};
 
 use market::figures::{
     FIRST_OUTSIDE, GREATEST_BID_VOLUME, GREATEST_SPECIAL_VOLUME, LEAST_BID_VOLUME,
     LEAST_SPECIAL_VOLUME, MINUTES_IN_HOUR, OUTSIDE_PARTIES,
 };
-use market::{Activation, Direction};
+use market::{Activation, Direction, Minutes};
 use timetable::{Timetable, within_limit};
-use units::{KilowattHours, Kilowatts, Party, Price};
-
-pub(crate) fn between(least: i64, energy: KilowattHours, greatest: i64) -> bool
-    ensures { result ≡ between least energy.0 greatest }
-{
-    least <= energy.0 && energy.0 <= greatest
-}
+use units::{Kilowatts, Party, Price};
 
 // A counterparty outside the area.
 pub(crate) fn is_outside(party: Party) -> bool
     ensures { result ≡ outside party.0 }
 {
-    FIRST_OUTSIDE <= party.0 && party.0 < FIRST_OUTSIDE + OUTSIDE_PARTIES
+    (FIRST_OUTSIDE..FIRST_OUTSIDE + OUTSIDE_PARTIES).contains(&party.0)
 }
 
 pub(crate) fn is_known(timetable: &Timetable, party: Party) -> bool
@@ -31,25 +25,23 @@ pub(crate) fn is_known(timetable: &Timetable, party: Party) -> bool
 }
 
 // An activation lasts at least a minute, and ends with its hour at the latest.
-pub(crate) fn minutes_fit(first: u8, last: u8) -> bool
-    ensures { result ≡ minutes_fit first last }
+pub(crate) fn minutes_fit(minutes: Minutes) -> bool
+    ensures { result ≡ minutes_fit minutes.first minutes.last }
 {
-    first < last && last <= MINUTES_IN_HOUR
+    minutes.first < minutes.last && minutes.last <= MINUTES_IN_HOUR
 }
 
 pub(crate) fn bid_fits(volume: Kilowatts, price: Price) -> bool
     ensures { result ≡ bid_fits volume.0 price }
 {
-    LEAST_BID_VOLUME <= volume.0 && volume.0 <= GREATEST_BID_VOLUME && within_limit(price)
+    (LEAST_BID_VOLUME..=GREATEST_BID_VOLUME).contains(&volume.0) && within_limit(price)
 }
 
 pub(crate) fn special_fits(activation: &Activation) -> bool
     ensures { result ≡ special_fits activation.now }
 {
-    let volume = activation.volume.0;
-    minutes_fit(activation.first_minute, activation.last_minute)
-        && LEAST_SPECIAL_VOLUME <= volume
-        && volume <= GREATEST_SPECIAL_VOLUME
+    minutes_fit(activation.minutes)
+        && (LEAST_SPECIAL_VOLUME..=GREATEST_SPECIAL_VOLUME).contains(&activation.volume.0)
         && within_limit(activation.price)
 }
 
@@ -58,7 +50,7 @@ pub(crate) fn is_right_side(direction: Direction, spot: Price, price: Price) -> 
     ensures { result ≡ right_side direction spot price }
 {
     match direction {
-        Direction::Up => spot.0 <= price.0,
-        Direction::Down => price.0 <= spot.0,
+        Direction::Up => spot <= price,
+        Direction::Down => price <= spot,
     }
 }

@@ -1,4 +1,5 @@
-// Which row of its table refuses a call. Each function tries its rows from the top, and changes nothing.
+// Whether a row of its table refuses a call. Each check tries its rows from the top, and changes nothing. They are free
+// functions, since the timetable that they ask is a type of another crate.
 #![tactic(auto)]
 
 mod activating;
@@ -9,9 +10,9 @@ mod metering;
 mod planning;
 mod settling;
 
-pub use activating::{activate_refusal, special_refusal};
-pub use asking::{account_refusal, facts_refusal};
-pub use bidding::{bid_refusal, withdraw_refusal};
-pub use metering::{imbalance_refusal, reading_refusal};
-pub use planning::{notice_refusal, plan_refusal};
-pub use settling::settle_refusal;
+pub use activating::{check_activate, check_special};
+pub use asking::{check_hour, check_party};
+pub use bidding::{check_bid, check_withdraw};
+pub use metering::{check_imbalance, check_reading};
+pub use planning::{check_notice, check_plan};
+pub use settling::check_settle;

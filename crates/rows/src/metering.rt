@@ -1,55 +1,47 @@
 // Meter readings, and the imbalances that they show.
 ghost use Rattle.std.specs.Prelude.{◌≡◌};
 ghost use Rattle.timetable.specs.View.{times};
-ghost use Rattle.rows.specs.Rows.{imbalance_row, reading_row};
+ghost use Rattle.rows.specs.Rows.{checked, imbalance_row, reading_row};
 
-use crate::fits::between;
+use crate::asking::{check_hour, check_party};
 use market::figures::READING_LIMIT;
 use refusal::Refusal;
 use timetable::Timetable;
 use units::{KilowattHours, Party, Position};
 
-pub fn reading_refusal(
+pub fn check_reading(
     timetable: &Timetable,
     hour: Position,
     party: Party,
     energy: KilowattHours,
     settled: bool,
-) -> Option<Refusal>
-    ensures { result ≡ reading_row (times timetable.now) hour.0 party.0 energy.0 settled }
+) -> Result<(), Refusal>
+    ensures { result ≡ checked (reading_row (times timetable.now) hour.0 party.0 energy.0 settled) }
 {
-    if !timetable.has_hour(hour) {
-        return Some(Refusal::NotInDay);
-    }
-    if !timetable.has_party(party) {
-        return Some(Refusal::UnknownParty);
-    }
-    if !between(0, energy, READING_LIMIT) {
-        return Some(Refusal::OutOfRange);
+    check_hour(timetable, hour)?;
+    check_party(timetable, party)?;
+    if !(0..=READING_LIMIT).contains(&energy.0) {
+        return Err(Refusal::OutOfRange);
     }
     if settled {
-        return Some(Refusal::AlreadySettled);
+        return Err(Refusal::AlreadySettled);
     }
-    None
+    Ok(())
 }
 
 // `complete`: the party's readings of the hour are there.
-pub fn imbalance_refusal(
+pub fn check_imbalance(
     timetable: &Timetable,
     hour: Position,
     party: Party,
     complete: bool,
-) -> Option<Refusal>
-    ensures { result ≡ imbalance_row (times timetable.now) hour.0 party.0 complete }
+) -> Result<(), Refusal>
+    ensures { result ≡ checked (imbalance_row (times timetable.now) hour.0 party.0 complete) }
 {
-    if !timetable.has_hour(hour) {
-        return Some(Refusal::NotInDay);
-    }
-    if !timetable.has_party(party) {
-        return Some(Refusal::UnknownParty);
-    }
+    check_hour(timetable, hour)?;
+    check_party(timetable, party)?;
     if !complete {
-        return Some(Refusal::ReadingMissing);
+        return Err(Refusal::ReadingMissing);
     }
-    None
+    Ok(())
 }

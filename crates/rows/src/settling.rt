@@ -1,29 +1,28 @@
 // The settlement of an hour.
 ghost use Rattle.std.specs.Prelude.{◌≡◌};
 ghost use Rattle.timetable.specs.View.{times};
-ghost use Rattle.rows.specs.Rows.{settle_row};
+ghost use Rattle.rows.specs.Rows.{checked, settle_row};
 
+use crate::asking::check_hour;
 use refusal::Refusal;
 use timetable::Timetable;
 use units::Position;
 
 // `complete`: every reading of the hour is there.
-pub fn settle_refusal(
+pub fn check_settle(
     timetable: &Timetable,
     hour: Position,
     settled: bool,
     complete: bool,
-) -> Option<Refusal>
-    ensures { result ≡ settle_row (times timetable.now) hour.0 settled complete }
+) -> Result<(), Refusal>
+    ensures { result ≡ checked (settle_row (times timetable.now) hour.0 settled complete) }
 {
-    if !timetable.has_hour(hour) {
-        return Some(Refusal::NotInDay);
-    }
+    check_hour(timetable, hour)?;
     if settled {
-        return Some(Refusal::AlreadySettled);
+        return Err(Refusal::AlreadySettled);
     }
     if !complete {
-        return Some(Refusal::ReadingMissing);
+        return Err(Refusal::ReadingMissing);
     }
-    None
+    Ok(())
 }

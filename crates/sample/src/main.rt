@@ -1,11 +1,10 @@
 // Replays the sample day and prints its sheet.
 #![tactic(auto)]
 
-use anyhow::anyhow;
 use calendar::Date;
 use day::MeteredDay;
 use ladder::Offer;
-use market::{Direction, Portfolio};
+use market::{Direction, Minutes, Portfolio};
 use notices::Notice;
 use positions::Meter;
 use pricing::policies::Nordic;
@@ -48,10 +47,7 @@ fn read(party: Party, meter: Meter, energy: i64) -> MeteredCall<Nordic> {
 fn print_sheet(rt: &HostRuntime, day: &MeteredDay) -> anyhow::Result<()> {
     let mut sheet = [0; SHEET_SPACE];
     let length = write_sheet(day, &mut sheet)?;
-    let Some(text) = sheet.get(..length) else {
-        return Err(anyhow!("the sheet is longer than its space"));
-    };
-    rt.stdout().write_all(text)?;
+    rt.stdout().write_all(&sheet[..length])?;
     Ok(())
 }
 
@@ -75,7 +71,7 @@ fn main(rt: HostRuntime) -> anyhow::Result<()> {
     };
     let running = [
         RunningCall::Bid(offer),
-        RunningCall::Activate(HOUR, Direction::Up, 0, 30),
+        RunningCall::Activate(HOUR, Direction::Up, Minutes { first: 0, last: 30 }),
     ];
     let metered = [
         read(PRODUCER, Meter::Production, 26_000),

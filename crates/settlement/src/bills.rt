@@ -4,7 +4,8 @@ ghost use Rattle.settlement.specs.Bills.{bill_of};
 
 use units::Mills;
 
-// The day with one listed activation that sets the price; and the one with a short activation, a special one and a notice from outside.
+// The day with one listed activation that sets the price; and the one with a short activation, a special one and a notice
+// from outside. An enum, so that a contract can name a day.
 #[derive(Clone, Copy)]
 pub enum WorkedDay {
     Sample,

@@ -1,3 +1,1 @@
-pub mod Laying
-pub mod Turns
-pub mod Whole
+pub mod Taken

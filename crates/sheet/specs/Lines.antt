@@ -1,6 +1,7 @@
 -- A line of a sheet. Assumes nothing.
-use Rattle.std.specs.Prelude.{ℕ, zero, suc, List, [], ◌∷◌, ◌++◌, Some, None, Option}
+use Rattle.std.specs.Prelude.{◌≡◌, ℕ, ◌<◌, zero, suc, List, [], ◌∷◌, ◌++◌, Some, None, Option}
 use Rattle.std.specs.List.{flat_map}
+use Rattle.std.specs.Option.{option_map}
 use Rattle.writers.specs.declared.Field.{Field}
 use Rattle.writers.specs.Text.{field_text}
 
@@ -21,3 +22,7 @@ line_or_none name (Some fields) = line_text name fields
 abbrev pub in_turn : (ℕ → List ℕ) → ℕ → List ℕ
 in_turn text zero = []
 in_turn text (suc n) = in_turn text n ++ text n
+
+-- whatever is answered at a number below n, `text` has the line of those fields there
+abbrev pub Spells : {L : Type 0} → List ℕ → (L → List Field) → ℕ → (ℕ → Option L → Type 0) → (ℕ → List ℕ) → Type 0
+Spells {L} name items n answers text = (i : ℕ) (fields : Option L) → i < n → answers i fields → text i ≡ line_or_none name (option_map items fields)

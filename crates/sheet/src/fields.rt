@@ -39,15 +39,9 @@ fn settled_fields(stamp: (u32, Mark), energy: KilowattHours, prices: &Prices) ->
 pub(crate) fn hour_fields(day: &MeteredDay, hour: Position) -> Option<[Field; 6]>
     ensures { result ≡ hour_fields (metered day.now) hour.0 }
 {
-    let Ok(stamp) = day.timetable().stamp(hour) else {
-        return None;
-    };
-    let Ok(facts) = day.facts(hour) else {
-        return None;
-    };
-    let Some(prices) = day.prices_of(hour) else {
-        return None;
-    };
+    let stamp = day.timetable().stamp(hour).ok()?;
+    let facts = day.facts(hour).ok()?;
+    let prices = day.prices_of(hour)?;
     Some(settled_fields(stamp, facts.net_energy, &prices))
 }
 
@@ -55,9 +49,7 @@ pub(crate) fn hour_fields(day: &MeteredDay, hour: Position) -> Option<[Field; 6]
 pub(crate) fn party_fields(day: &MeteredDay, party: Party) -> Option<[Field; 2]>
     ensures { result ≡ party_fields (metered day.now) party.0 }
 {
-    let Ok(account) = day.account(party) else {
-        return None;
-    };
+    let account = day.account(party).ok()?;
     Some([Field::TwoDigits(party.0), Field::Number(account.0)])
 }
 

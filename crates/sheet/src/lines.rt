@@ -1,48 +1,37 @@
 // A line: its name, its fields after a space each, and a line feed.
-ghost use Rattle.std.specs.Prelude.{◌≡◌, ◌≤◌, length};
-ghost use Rattle.writers.specs.Laid.{laid};
-ghost use Rattle.std.specs.List.{flat_map};
-ghost use Rattle.sheet.specs.Lines.{spaced, line_text};
+ghost use Rattle.std.specs.Prelude.{ℕ, List};
+ghost use Rattle.sheet.specs.Lines.{line_text, in_turn, Spells};
 
-use writers::{Field, field_length, write_bytes, write_field};
+use std::convert::AsSlice;
+use writers::{Field, Sink};
 
-// How many bytes a line takes.
-pub(crate) fn line_length(name: &[u8], fields: &[Field]) -> usize
-    requires { (length name.now ≤ 3) × (length fields.now ≤ 6) }
-    ensures value { result ≡ length (line_text name.now fields.now) }
-    ensures most { result ≤ 130 }
+// Gives a line to a sink.
+pub(crate) fn write_line<S: Sink>(sink: &mut S, name: &[u8], fields: &[Field])
+    ensures { S.takes sink.old (line_text name.now fields.now) sink.new }
 {
-    let mut total = name.len();
+    sink.put(name);
     for field in fields {
-        total += 1 + field_length(*field);
+        sink.put(b" ");
+        sink.put_field(*field);
     }
-    total + 1
+    sink.put(b"\n");
 }
 
-// Writes the fields, each after a space, from the start of a part that they fit in.
-fn write_fields(part: &mut [u8], fields: &[Field]) -> usize
-    requires { length (flat_map spaced fields.now) ≤ length part.old }
-    ensures count { result ≡ length (flat_map spaced fields.now) }
-    ensures within { result ≤ length part.old }
-    ensures bytes { part.new ≡ laid (flat_map spaced fields.now) part.old }
+// Gives the lines of 0, 1 and on, up to the last below `count`, to a sink; what has no fields has no line.
+pub(crate) fn write_lines<S: Sink, L: AsSlice<Field> + Drop, F: Fn(usize) -> Option<L>>(
+    sink: &mut S,
+    name: &[u8],
+    count: usize,
+    fields_of: F,
+)
+    requires { F.IsAlwaysCallable fields_of }
+    ensures { (text : ℕ → List ℕ) → Spells name.now L.items count (F.post fields_of) text
+        → S.takes sink.old (in_turn text count) sink.new }
 {
-    let mut at = 0;
-    for field in fields {
-        at += write_bytes(&mut part[at..], b" ");
-        at += write_field(&mut part[at..], *field);
+    // A `for`, since each step writes to the sink.
+    for i in 0..count {
+        if let Some(fields) = fields_of(i) {
+            write_line(sink, name, fields.as_slice());
+        }
     }
-    at
-}
-
-// Writes a line from the start of a part that it fits in.
-pub(crate) fn write_line(part: &mut [u8], name: &[u8], fields: &[Field]) -> usize
-    requires { length (line_text name.now fields.now) ≤ length part.old }
-    ensures count { result ≡ length (line_text name.now fields.now) }
-    ensures within { result ≤ length part.old }
-    ensures bytes { part.new ≡ laid (line_text name.now fields.now) part.old }
-{
-    let mut at = write_bytes(part, name);
-    at += write_fields(&mut part[at..], fields);
-    at += write_bytes(&mut part[at..], b"\n");
-    at
 }

@@ -6,7 +6,7 @@ mod tests {
     use calendar::Date;
     use day::{MeteredDay, PlannedDay};
     use ladder::Offer;
-    use market::{Direction, Portfolio};
+    use market::{Direction, Minutes, Portfolio};
     use positions::Meter;
     use pricing::policies::Nordic;
     use refusal::Refusal;
@@ -17,7 +17,8 @@ mod tests {
 
     const HOUR: Position = Position(8);
 
-    // 5,000 kWh are activated upward at 3,500 from party 0, which produces 1,000 more; party 1 takes 6,000 that it has not bought.
+    // 5,000 kWh are activated upward at 3,500 from party 0, which produces 1,000 more; party 1 takes 6,000 that it has
+    // not bought.
     fn settled_day(heap: Global) -> Result<MeteredDay, Fail> {
         let date = Date {
             year: 2017,
@@ -36,7 +37,7 @@ mod tests {
             volume: Kilowatts(10_000),
             price: Price(3_500),
         })?;
-        let _ = day.activate(HOUR, Direction::Up, 0, 30)?;
+        let _ = day.activate(HOUR, Direction::Up, Minutes { first: 0, last: 30 })?;
         let mut day = day.finish();
         day.read(HOUR, maker, Meter::Production, KilowattHours(6_000))?;
         day.read(HOUR, maker, Meter::Consumption, KilowattHours(0))?;
@@ -52,12 +53,12 @@ mod tests {
         let day = settled_day(rt.alloc())?;
         let mut short = [b'.'; 85];
         assert_eq!(rt; write_sheet(&day, &mut short), Err(Refusal::SheetTooShort));
-        assert!(rt; short.as_slice() == [b'.'; 85].as_slice());
+        assert_eq!(rt; short, [b'.'; 85]);
         let mut sheet = [b'.'; 90];
         assert_eq!(rt; write_sheet(&day, &mut sheet)?, 86);
-        let text: &[u8] =
+        let text =
             b"DAY 2017-12-20 24\nH 08 5000 3000 3500 3500 3500\nP 00 20500000\nP 01 -21000000\nO 500000\n....";
-        assert!(rt; sheet.as_slice() == text);
+        assert_eq!(rt; &sheet, text);
         Ok(())
     }
 
@@ -76,9 +77,9 @@ mod tests {
         day.settle(Position(2), &Nordic)?;
         let mut sheet = [b'.'; 78];
         assert_eq!(rt; write_sheet(&day, &mut sheet)?, 78);
-        let text: &[u8] =
+        let text =
             b"DAY 2017-10-29 25\nH 02A 0 -150 -150 -150 -150\nH 02B 0 -150 -150 -150 -150\nO 0\n";
-        assert!(rt; sheet.as_slice() == text);
+        assert_eq!(rt; &sheet, text);
         Ok(())
     }
 }

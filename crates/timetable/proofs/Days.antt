@@ -1,6 +1,6 @@
 -- A day that is opened: its hours, its prices, its clock.
-use Rattle.std.proofs.Common.{◌≡◌, ℕ, zero, suc, ◌<◌, ◌≤◌, true, false, cond, not, ◌||◌, eqb, ltb, List, [], ◌∷◌, length, get_or, ℤ, pos, ◌-ℤ◌, is_some, Some, None, Ok, Err, Option, Result, sym, refl, ap, ◌∙◌, subst, arith, w64, to_z, of_z}
-use Rattle.std.proofs.lemmas.List.{get_or_past, length-map}
+use Rattle.std.proofs.Common.{◌≡◌, ℕ, zero, suc, ◌<◌, true, false, cond, not, ◌||◌, eqb, ltb, List, [], ◌∷◌, length, ℤ, pos, ◌-ℤ◌, None, Ok, Err, Result, sym, refl, ap, ◌∙◌, subst, arith, w64, to_z, of_z}
+use Rattle.std.proofs.lemmas.List.{length-map}
 use Rattle.std.proofs.lemmas.Int.{ints}
 use Rattle.std.proofs.lemmas.Bool.{and_parts, cond-true, cond-false, eqb-false, eqb-true, lt-ltb, ltb-true, not-false, or_parts, or_right}
 use Rattle.units.specs.declared.Position.{Position}
@@ -53,24 +53,11 @@ within_fact p e = record { low = grind (arith, ints); high = grind (arith, ints)
 pub zero_within : Within (price (pos 0))
 zero_within = within_fact (price (pos 0)) refl
 
-each_at : (ps : List Price) (h : ℕ) (d : Price) → each_within ps ≡ true → h < length ps → within_limit (get_or ps h d) ≡ true
-each_at [] h d all there = absurd (omega arith)
-each_at (p ∷ ps) zero d all there = (and_parts (within_limit p) (each_within ps) all).0
-each_at (p ∷ ps) (suc h) d all there = each_at ps h d (and_parts (within_limit p) (each_within ps) all).1 (omega arith)
-
-module _ (ps qs : List Price) (are : qs ≡ ps) (h : ℕ) where
-  pub spot_at : (p : Price) → p ≡ get_or qs h (price (pos 0)) → p ≡ spot_of ps h
-  spot_at p e = e ∙ ap (λ zs. get_or zs h (price (pos 0))) are
-
-  pub spot_within : (p : Price) → each_within ps ≡ true → h < length qs → p ≡ get_or qs h (price (pos 0)) → Within p
-  spot_within p all there e = subst Within (sym (spot_at p e)) (within_fact (spot_of ps h) (each_at ps h (price (pos 0)) all (subst (λ zs. h < length zs) are there)))
-
-  pub no_spot : length qs ≤ h → price (pos 0) ≡ spot_of ps h
-  no_spot past = sym (get_or_past ps h (price (pos 0)) (subst (λ zs. length zs ≤ h) are past))
-
-pub is_none : (o : Option Refusal) → false ≡ is_some o → o ≡ None
-is_none None e = refl
-is_none (Some r) e = absurd (let z : ◌≡◌ {A = ℕ} 0 1 = cc in omega arith)
+-- the spot price of an hour, also past the day's hours
+pub spot_of_within : (ps : List Price) (h : ℕ) → each_within ps ≡ true → Within (spot_of ps h)
+spot_of_within [] h all = zero_within
+spot_of_within (p ∷ ps) zero all = within_fact p (and_parts (within_limit p) (each_within ps) all).0
+spot_of_within (p ∷ ps) (suc h) all = spot_of_within ps h (and_parts (within_limit p) (each_within ps) all).1
 
 -- what a day is opened on
 pub record Accepted (date : Date) (xs : List ℤ) : Type 0 where

@@ -1,5 +1,4 @@
 pub mod Rows
-pub mod Runs
 pub mod Starts
 pub mod Days
 pub mod Bounded

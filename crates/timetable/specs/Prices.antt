@@ -1,5 +1,6 @@
 -- Prices, and how far they may lie from zero. Assumes nothing.
-use Rattle.std.specs.Prelude.{Bool, true, ◌&&◌, List, [], ◌∷◌, map, ℤ, pos, neg_ℤ, ◌≤ℤ◌, int_le}
+use Rattle.std.specs.Prelude.{Bool, ◌&&◌, List, map, ℤ, pos, neg_ℤ, ◌≤ℤ◌, int_le}
+use Rattle.std.specs.List.{list_all}
 use Rattle.units.specs.declared.Price.{Price}
 use Rattle.market.specs.Figures.{price_limit}
 
@@ -14,8 +15,7 @@ abbrev pub within_limit : Price → Bool
 within_limit p = int_le (neg_ℤ (pos price_limit)) p.0 && int_le p.0 (pos price_limit)
 
 abbrev pub each_within : List Price → Bool
-each_within [] = true
-each_within (p ∷ ps) = within_limit p && each_within ps
+each_within prices = list_all within_limit prices
 
 -- the same as a fact
 pub record Within (p : Price) : Type 0 where

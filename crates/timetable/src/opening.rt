@@ -12,33 +12,26 @@ use units::Price;
 pub fn within_limit(price: Price) -> bool
     ensures { result ≡ within_limit price }
 {
-    -PRICE_LIMIT <= price.0 && price.0 <= PRICE_LIMIT
+    (-PRICE_LIMIT..=PRICE_LIMIT).contains(&price.0)
 }
 
 fn all_within_limit(prices: &[i32]) -> bool
     ensures { result ≡ each_within (priced prices.now) }
 {
-    for price in prices {
-        if !within_limit(Price(*price)) {
-            return false;
-        }
-    }
-    true
+    prices.iter().all(|price| within_limit(Price(*price)))
 }
 
-// Why a day of that date cannot be opened with these prices, one for each hour.
+// Why a day of that date cannot be opened with these prices, one for each hour; none where it can.
+// It is a question, so no Err: where it names a refusal, `Timetable::open` answers the day without hours.
 pub fn opening_refusal(date: Date, prices: &[i32]) -> Option<Refusal>
     ensures { result ≡ opening_row date prices.now }
 {
     let hours = date.hours();
     if prices.len() != hours {
-        return Some(Refusal::NotInDay);
+        Some(Refusal::NotInDay)
+    } else if hours == 0 || !all_within_limit(prices) {
+        Some(Refusal::OutOfRange)
+    } else {
+        None
     }
-    if hours == 0 {
-        return Some(Refusal::OutOfRange);
-    }
-    if !all_within_limit(prices) {
-        return Some(Refusal::OutOfRange);
-    }
-    None
 }

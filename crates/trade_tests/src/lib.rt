@@ -5,7 +5,7 @@
 mod tests {
     use facts::facts_of;
     use ladder::{Ladder, Offer};
-    use market::{Activation, Direction, Kind, Portfolio};
+    use market::{Activation, Direction, Kind, Minutes, Portfolio};
     use refusal::Refusal;
     use register::Register;
     use std::test::Fail;
@@ -24,11 +24,10 @@ mod tests {
         }
     }
 
-    fn upward(first_minute: u8, last_minute: u8, kind: Kind) -> Activation {
+    fn upward(minutes: Minutes, kind: Kind) -> Activation {
         Activation {
             hour: HOUR,
-            first_minute,
-            last_minute,
+            minutes,
             arrival: 0,
             party: Party(0),
             portfolio: Portfolio::Production,
@@ -81,8 +80,8 @@ mod tests {
     #[test]
     fn facts_of_an_hour(rt: HostRuntime) -> Result<(), Fail> {
         let mut register = Register::new(rt.alloc())?;
-        register.enter(upward(0, 30, Kind::Listed))?;
-        register.enter(upward(0, 60, Kind::Special))?;
+        register.enter(upward(Minutes { first: 0, last: 30 }, Kind::Listed))?;
+        register.enter(upward(Minutes { first: 0, last: 60 }, Kind::Special))?;
         let (up, down) = register.listed_totals(HOUR);
         assert_eq!(rt; up.0, 5_000);
         assert_eq!(rt; down.0, 0);

@@ -1,2 +1,5 @@
-pub mod Text
+pub mod Counting
 pub mod Laid
+pub mod Laws
+pub mod Laying
+pub mod Text

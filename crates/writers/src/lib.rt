@@ -1,14 +1,18 @@
-// Writers of the fields of a sheet. Each writes its text from the start of the part that it is given, and answers how many
-// bytes that took; where the part is too short it writes nothing.
+// Writers of the fields of a sheet. Each writes its text from the start of the part of the sheet that it is given, and
+// answers how many bytes that took; where the part is too short it writes nothing.
 #![tactic(auto)]
 
-ghost use Rattle.std.specs.Prelude.{◌≡◌, ◌+◌, ◌≤◌, ◌++◌, length, drop, decimal};
+ghost use Rattle.std.specs.Prelude.{◌≡◌, ◌≤◌, length};
 ghost use Rattle.writers.specs.Text.{digit as digitOf, two_digits, text_of_date, stamp_text, number_text, field_text};
-ghost use Rattle.writers.specs.Laid.{count_of, afterwards};
+ghost use Rattle.writers.specs.Laid.{Wrote};
 
 use calendar::{Date, Mark};
 
-// What stands between two spaces of a line.
+mod sink;
+
+pub use sink::{Counter, Cursor, Sink};
+
+// What stands between two spaces of a line. An enum and no closure, since the text of the sheet is defined by it.
 #[derive(Clone, Copy)]
 pub enum Field {
     Day(Date),
@@ -19,9 +23,7 @@ pub enum Field {
 
 // A text as it is.
 pub fn write_bytes(part: &mut [u8], text: &[u8]) -> usize
-    ensures count { result ≡ count_of text.now part.old }
-    ensures within { result ≤ length part.old }
-    ensures bytes { part.new ≡ afterwards text.now part.old }
+    ensures { Wrote text.now part.old result part.new }
 {
     let count = text.len();
     if part.len() < count {
@@ -31,7 +33,7 @@ pub fn write_bytes(part: &mut [u8], text: &[u8]) -> usize
     count
 }
 
-// The last digit of a number.
+// The last digit of a number. By hand, since `Display` promises its text only where no error is answered.
 fn digit(n: usize) -> u8
     ensures { result ≡ digitOf n }
 {
@@ -40,18 +42,14 @@ fn digit(n: usize) -> u8
 
 // The last two digits of a number.
 pub fn write_two_digits(part: &mut [u8], n: usize) -> usize
-    ensures count { result ≡ count_of (two_digits n) part.old }
-    ensures within { result ≤ length part.old }
-    ensures bytes { part.new ≡ afterwards (two_digits n) part.old }
+    ensures { Wrote (two_digits n) part.old result part.new }
 {
     write_bytes(part, &[digit(n / 10), digit(n)])
 }
 
 // A date, YYYY-MM-DD.
 pub fn write_date(part: &mut [u8], date: Date) -> usize
-    ensures count { result ≡ count_of (text_of_date date) part.old }
-    ensures within { result ≤ length part.old }
-    ensures bytes { part.new ≡ afterwards (text_of_date date) part.old }
+    ensures { Wrote (text_of_date date) part.old result part.new }
 {
     let year = date.year as usize;
     let month = date.month as usize;
@@ -73,9 +71,7 @@ pub fn write_date(part: &mut [u8], date: Date) -> usize
 
 // A stamp: two digits and its mark.
 pub fn write_stamp(part: &mut [u8], number: usize, mark: Mark) -> usize
-    ensures count { result ≡ count_of (stamp_text number mark) part.old }
-    ensures within { result ≤ length part.old }
-    ensures bytes { part.new ≡ afterwards (stamp_text number mark) part.old }
+    ensures { Wrote (stamp_text number mark) part.old result part.new }
 {
     let tens = digit(number / 10);
     let ones = digit(number);
@@ -86,48 +82,17 @@ pub fn write_stamp(part: &mut [u8], number: usize, mark: Mark) -> usize
     }
 }
 
-// As many bytes as the longest number takes.
-const LONGEST: usize = 20;
-
-// The digits of a number, set before what stands from `end` on; answers where they begin.
-fn set_digits(text: &mut [u8], end: usize, n: u64) -> usize
-    requires { (end ≤ length text.old) × (length (decimal n) ≤ end) }
-    ensures place { result + length (decimal n) ≡ end }
-    ensures bytes { drop result text.new ≡ decimal n ++ drop end text.old }
-{
-    let mut at = end;
-    let mut rest = n;
-    while rest >= 10 {
-        at -= 1;
-        text[at] = b'0' + (rest % 10) as u8;
-        rest /= 10;
-    }
-    at -= 1;
-    text[at] = b'0' + rest as u8;
-    at
-}
-
 // A number, with a dash before a negative one.
 pub fn write_number(part: &mut [u8], n: i64) -> usize
-    ensures count { result ≡ count_of (number_text n) part.old }
-    ensures within { result ≤ length part.old }
-    ensures bytes { part.new ≡ afterwards (number_text n) part.old }
+    ensures wrote { Wrote (number_text n) part.old result part.new }
     ensures most { length (number_text n) ≤ 20 }
 {
-    let mut text = [0u8; LONGEST];
-    let mut at = set_digits(&mut text, LONGEST, n.unsigned_abs());
-    if n < 0 {
-        at -= 1;
-        text[at] = b'-';
-    }
-    write_bytes(part, &text[at..])
+    write_bytes(part, itoa::Buffer::new().format(n).as_bytes())
 }
 
 // A field, whichever it is.
 pub fn write_field(part: &mut [u8], field: Field) -> usize
-    ensures count { result ≡ count_of (field_text field) part.old }
-    ensures within { result ≤ length part.old }
-    ensures bytes { part.new ≡ afterwards (field_text field) part.old }
+    ensures wrote { Wrote (field_text field) part.old result part.new }
     ensures most { length (field_text field) ≤ 20 }
 {
     match field {
@@ -137,6 +102,9 @@ pub fn write_field(part: &mut [u8], field: Field) -> usize
         Field::Number(n) => write_number(part, n),
     }
 }
+
+// As many bytes as the longest number takes.
+const LONGEST: usize = 20;
 
 // How many bytes a field takes: as many as it fills of room for the longest.
 pub fn field_length(field: Field) -> usize

@@ -1,45 +1,41 @@
 // What a settlement books.
-ghost use Rattle.std.specs.Prelude.{◌≡◌, ℕ, Option};
+ghost use Rattle.std.specs.Prelude.{◌≡◌};
 ghost use Rattle.accounts.specs.Booked.{settled_of};
 ghost use Rattle.market.specs.Figures.{price_setting_minutes};
 ghost use Rattle.timetable.specs.View.{times};
-ghost use Rattle.pricing.specs.declared.Prices.{Prices};
 ghost use Rattle.settlement.specs.Bounds.{PricesFit};
 ghost use Rattle.settlement.specs.Payments.{due_to};
-ghost use Rattle.journal.specs.Figures.{Stage, hour_at};
-ghost use Rattle.book.specs.View.{shown};
+ghost use Rattle.journal.specs.Figures.{hour_at};
+ghost use Rattle.book.specs.View.{InEveryView};
 ghost use Rattle.book.specs.Bills.{Roomy, Billed};
 
 use super::Book;
 use accounts::Accounts;
-use billing::HourBook;
+use billing::Terms;
 use market::figures::PRICE_SETTING_MINUTES;
-use pricing::{Facts, Prices};
+use pricing::PricedHour;
 use units::{Mills, Party, Position};
 
 impl Book {
-    // What is due to a party in an hour, at these prices.
-    fn due(&self, hour: Position, party: Party, facts: &Facts, prices: &Prices) -> Mills
-        ensures { PricesFit facts.now prices.now → (stage : Stage) (settled : ℕ → Option Prices) → result.0 ≡ due_to price_setting_minutes facts.now prices.now (hour_at (shown stage settled self.now) hour.0) party.0 }
+    // What is due to a party in an hour, on these terms.
+    fn due(&self, hour: Position, party: Party, terms: &Terms) -> Mills
+        ensures { PricesFit terms.now.priced.facts terms.now.priced.prices → InEveryView self.now (λ f. result.0 ≡ due_to terms.now.minutes terms.now.priced.facts terms.now.priced.prices (hour_at f hour.0) party.0) }
     {
-        let books = HourBook {
-            position: hour,
-            parties: self.timetable.parties(),
-            notices: &self.notices,
-            register: &self.register,
-        };
-        let metered = self.metered(hour, party);
-        books.due(PRICE_SETTING_MINUTES, facts, prices, metered, party)
+        self.hour_book(hour).due(terms, self.metered(hour, party))
     }
 
     // Books for every party what is due to it in the hour, and the counter-entry for the operator.
-    pub fn bill(&self, accounts: &mut Accounts, hour: Position, facts: &Facts, prices: &Prices)
+    pub fn bill(&self, accounts: &mut Accounts, hour: Position, priced: &PricedHour)
         ensures settled { settled_of accounts.new ≡ settled_of accounts.old }
-        ensures billed { PricesFit facts.now prices.now → Roomy accounts.old → (stage : Stage) (settled : ℕ → Option Prices) → Billed (times self.now.timetable).parties (due_to price_setting_minutes facts.now prices.now (hour_at (shown stage settled self.now) hour.0)) accounts.old accounts.new }
+        ensures billed { PricesFit priced.now.facts priced.now.prices → Roomy accounts.old → InEveryView self.now (λ f. Billed (times self.now.timetable).parties (due_to price_setting_minutes priced.now.facts priced.now.prices (hour_at f hour.0)) accounts.old accounts.new) }
     {
+        let terms = Terms {
+            minutes: PRICE_SETTING_MINUTES,
+            priced: *priced,
+        };
         for number in 0..self.timetable.parties() {
             let party = Party(number);
-            let due = self.due(hour, party, facts, prices);
+            let due = self.due(hour, party, &terms);
             accounts.book(party, due);
         }
     }

@@ -7,7 +7,7 @@ use super::Book;
 use calendar::Instant;
 use notices::Notice;
 use refusal::Refusal;
-use rows::{notice_refusal, plan_refusal};
+use rows::{check_notice, check_plan};
 use units::{KilowattHours, Party, Position};
 
 impl Book {
@@ -34,9 +34,7 @@ impl Book {
     ) -> Result<(), Refusal>
         ensures { Call (λ f. plan_refused f hour.0 party.0 energy.0) (λ _. Plan hour.0 party.0 energy.0) result self.old self.new }
     {
-        if let Some(refusal) = plan_refusal(&self.timetable, hour, party, energy) {
-            return Err(refusal);
-        }
+        check_plan(&self.timetable, hour, party, energy)?;
         self.positions.set_plan(hour, party, energy);
         Ok(())
     }
@@ -46,9 +44,7 @@ impl Book {
         ensures { Call (λ f. notice_refused f notice) (λ _. Noticed notice) result self.old self.new }
     {
         let room = self.notices.has_place_for(&notice);
-        if let Some(refusal) = notice_refusal(&self.timetable, &notice, room) {
-            return Err(refusal);
-        }
+        check_notice(&self.timetable, &notice, room)?;
         self.notices.take(notice)
     }
 }

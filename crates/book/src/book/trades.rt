@@ -9,19 +9,19 @@ ghost use Rattle.book.specs.View.{Call};
 use super::Book;
 use ladder::Offer;
 use market::figures::{MOST_BIDS, MOST_RECEIPTS};
-use market::{Activation, Bid, Direction, Kind};
+use market::{Activation, Bid, Direction, Kind, Minutes};
 use refusal::Refusal;
-use rows::{activate_refusal, bid_refusal, special_refusal, withdraw_refusal};
+use rows::{check_activate, check_bid, check_special, check_withdraw};
 use units::{KilowattHours, Position, Receipt};
 
 // The activation of a bid, for these minutes of its hour.
-fn listed(bid: Bid, hour: Position, first_minute: u8, last_minute: u8) -> Activation
-    ensures { result ≡ listed_of bid hour first_minute last_minute }
+// A bid and an offer have no type of their terms in common: one function for both would copy the terms twice.
+fn listed(bid: Bid, hour: Position, minutes: Minutes) -> Activation
+    ensures { result ≡ listed_of bid hour minutes.first minutes.last }
 {
     Activation {
         hour,
-        first_minute,
-        last_minute,
+        minutes,
         arrival: 0,
         party: bid.party,
         portfolio: bid.portfolio,
@@ -33,13 +33,12 @@ fn listed(bid: Bid, hour: Position, first_minute: u8, last_minute: u8) -> Activa
 }
 
 // A special activation on the terms that are offered.
-fn special(offer: Offer, first_minute: u8, last_minute: u8) -> Activation
-    ensures { result ≡ special_of offer first_minute last_minute }
+fn special(offer: Offer, minutes: Minutes) -> Activation
+    ensures { result ≡ special_of offer minutes.first minutes.last }
 {
     Activation {
         hour: offer.hour,
-        first_minute,
-        last_minute,
+        minutes,
         arrival: 0,
         party: offer.party,
         portfolio: offer.portfolio,
@@ -55,7 +54,7 @@ impl Book {
     fn has_room_for_a_bid(&self) -> bool
         ensures { result ≡ has_space (bids.view self.now.ladder) }
     {
-        (self.ladder.len() < MOST_BIDS) & (self.ladder.given() < MOST_RECEIPTS)
+        self.ladder.len() < MOST_BIDS && self.ladder.given() < MOST_RECEIPTS
     }
 
     // The offer stands as a bid, under the receipt that is answered.
@@ -63,9 +62,7 @@ impl Book {
         ensures { Call (λ f. bid_refused f offer) (λ receipt. BidAccepted offer receipt.0) result self.old self.new }
     {
         let room = self.has_room_for_a_bid();
-        if let Some(refusal) = bid_refusal(&self.timetable, &offer, room) {
-            return Err(refusal);
-        }
+        check_bid(&self.timetable, &offer, room)?;
         self.ladder.add(offer)
     }
 
@@ -74,11 +71,9 @@ impl Book {
         ensures { Call (λ f. withdraw_refused f receipt.0) (λ _. Withdrawn receipt.0) result self.old self.new }
     {
         let standing = self.ladder.find(receipt);
-        if let Some(refusal) = withdraw_refusal(&self.timetable, standing) {
-            return Err(refusal);
-        }
+        check_withdraw(&self.timetable, standing)?;
         // It stands, so it can be taken out.
-        let _ = self.ladder.withdraw(receipt);
+        self.ladder.withdraw(receipt)?;
         Ok(())
     }
 
@@ -94,48 +89,32 @@ impl Book {
         &mut self,
         hour: Position,
         direction: Direction,
-        first_minute: u8,
-        last_minute: u8,
+        minutes: Minutes,
     ) -> Result<(Receipt, KilowattHours), Refusal>
-        ensures { Call (λ f. activate_refused f hour.0 direction first_minute last_minute) (λ x. Activated hour direction first_minute last_minute x.0.0 x.1.0) result self.old self.new }
+        ensures { Call (λ f. activate_refused f hour.0 direction minutes.first minutes.last) (λ x. Activated hour direction minutes.first minutes.last x.0.0 x.1.0) result self.old self.new }
     {
         let room = self.register.has_room();
-        let found = self.ladder.first_free(hour, direction).is_some();
-        if let Some(refusal) = activate_refusal(
-            &self.timetable,
-            hour,
-            first_minute,
-            last_minute,
-            room,
-            found,
-        ) {
-            return Err(refusal);
-        }
-        let Some(bid) = self.ladder.take_first(hour, direction) else {
-            return Err(Refusal::NoSuchBid);
-        };
-        let activation = listed(bid, hour, first_minute, last_minute);
+        let found = self.ladder.first_free(hour, direction);
+        check_activate(&self.timetable, hour, minutes, room, found)?;
+        let bid = self
+            .ladder
+            .take_first(hour, direction)
+            .ok_or(Refusal::NoSuchBid)?;
+        let activation = listed(bid, hour, minutes);
         // There is room for it.
-        let _ = self.register.enter(activation);
+        self.register.enter(activation)?;
         Ok((bid.receipt, activation.energy()))
     }
 
     // An activation on its own terms; answers its energy.
-    pub fn special(
-        &mut self,
-        offer: Offer,
-        first_minute: u8,
-        last_minute: u8,
-    ) -> Result<KilowattHours, Refusal>
-        ensures { Call (λ f. special_refused f (special_of offer first_minute last_minute)) (λ energy. Special (special_of offer first_minute last_minute) energy.0) result self.old self.new }
+    pub fn special(&mut self, offer: Offer, minutes: Minutes) -> Result<KilowattHours, Refusal>
+        ensures { Call (λ f. special_refused f (special_of offer minutes.first minutes.last)) (λ energy. Special (special_of offer minutes.first minutes.last) energy.0) result self.old self.new }
     {
-        let activation = special(offer, first_minute, last_minute);
+        let activation = special(offer, minutes);
         let room = self.register.has_room();
-        if let Some(refusal) = special_refusal(&self.timetable, &activation, room) {
-            return Err(refusal);
-        }
+        check_special(&self.timetable, &activation, room)?;
         // There is room for it.
-        let _ = self.register.enter(activation);
+        self.register.enter(activation)?;
         Ok(activation.energy())
     }
 }

@@ -3,6 +3,8 @@ ghost use Rattle.std.specs.Prelude.{◌≡◌, ◌+◌, is_some, IfSome, IfOk, i
 ghost use Rattle.std.specs.List.{slice_get};
 ghost use Rattle.std.specs.Option.{option_map, ok_or};
 ghost use Rattle.refusal.specs.declared.Refusal.TheVariants.{NoRoom, NoSuchBid};
+ghost use Rattle.market.specs.declared.words.Direction.TheVariants.{Up, Down};
+ghost use Rattle.ladder.specs.Sides.{Puts};
 ghost use Rattle.ladder.specs.Ladder.{added, bids_of, dropped, first_free, has_space, marked, no_bids, standing_with, taken, view};
 
 use super::Ladder;
@@ -14,6 +16,17 @@ use ordered::OrderedList;
 use refusal::Refusal;
 use std::alloc::{AllocError, Global};
 use units::{Position, Receipt};
+
+// Puts a bid at its place in the list of its direction, if that list takes it.
+fn put(up: &mut OrderedList<Bid>, down: &mut OrderedList<Bid>, bid: Bid)
+    ensures up { Puts Up bid up.old up.new }
+    ensures down { Puts Down bid down.old down.new }
+{
+    let _ = match bid.direction {
+        Direction::Up => up.put(bid),
+        Direction::Down => down.put(bid),
+    };
+}
 
 impl Ladder {
     // No bids yet. The memory for all is reserved here, so nothing later can want for it.
@@ -42,10 +55,8 @@ impl Ladder {
         ensures side { IfSome result (λ b. b.direction ≡ direction) }
         ensures after { view self.new ≡ taken result (view self.old) }
     {
-        match standing::first_free(self.standing(direction), hour) {
-            Some(place) => self.take_at(direction, place),
-            None => None,
-        }
+        let place = standing::first_free(self.standing(direction), hour)?;
+        self.take_at(direction, place)
     }
 
     // Removes the bid with that receipt, and answers it.
@@ -53,10 +64,8 @@ impl Ladder {
         ensures value { result ≡ ok_or (standing_with receipt.0 (view self.old)) NoSuchBid }
         ensures after { view self.new ≡ (if is_some (standing_with receipt.0 (view self.old)) then dropped receipt.0 (view self.old) else view self.old) }
     {
-        match self.place_of(receipt) {
-            Some((direction, place)) => self.take_at(direction, place).ok_or(Refusal::NoSuchBid),
-            None => Err(Refusal::NoSuchBid),
-        }
+        let (direction, place) = self.place_of(receipt).ok_or(Refusal::NoSuchBid)?;
+        self.take_at(direction, place).ok_or(Refusal::NoSuchBid)
     }
 
     // Marks the bid with that receipt as held, so that it is not taken, or as free again.
@@ -64,22 +73,13 @@ impl Ladder {
         ensures value { result ≡ ok_or (option_map (λ _. tt) (standing_with receipt.0 (view self.old))) NoSuchBid }
         ensures after { view self.new ≡ (if is_some (standing_with receipt.0 (view self.old)) then marked receipt.0 held (view self.old) else view self.old) }
     {
-        let Some((direction, place)) = self.place_of(receipt) else {
-            return Err(Refusal::NoSuchBid);
-        };
+        let (direction, place) = self.place_of(receipt).ok_or(Refusal::NoSuchBid)?;
         let changed = Bid {
             held,
             ..self.standing(direction)[place]
         };
         // It takes its own place again, so there is room for it.
-        match direction {
-            Direction::Up => {
-                let _ = self.up.put(changed);
-            }
-            Direction::Down => {
-                let _ = self.down.put(changed);
-            }
-        }
+        put(&mut self.up, &mut self.down, changed);
         Ok(())
     }
 
@@ -88,23 +88,14 @@ impl Ladder {
         ensures value { result ≡ (if has_space (view self.old) then Ok (record { 0 = (view self.old).given + 1 }) else Err NoRoom) }
         ensures after { view self.new ≡ (if has_space (view self.old) then added offer (view self.old) else view self.old) }
     {
-        if self.len() >= MOST_BIDS {
-            return Err(Refusal::NoRoom);
-        }
-        if self.given >= MOST_RECEIPTS {
+        if self.len() >= MOST_BIDS || self.given >= MOST_RECEIPTS {
             return Err(Refusal::NoRoom);
         }
         self.given += 1;
         let receipt = Receipt(self.given);
         let bid = offer.bid(receipt);
-        match offer.direction {
-            Direction::Up => {
-                let _ = self.up.put(bid);
-            }
-            Direction::Down => {
-                let _ = self.down.put(bid);
-            }
-        }
+        // Each list has space for all the bids that may stand, so there is room for it.
+        put(&mut self.up, &mut self.down, bid);
         Ok(receipt)
     }
 }

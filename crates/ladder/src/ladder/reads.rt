@@ -46,23 +46,22 @@ impl Ladder {
         ensures value { bid_at (view self.now) result ≡ standing_with receipt.0 (view self.now) }
         ensures within { IfSome result (λ p. (p.1 < length (bids_of p.0 (view self.now))) × ((slice_index_or (bids_of p.0 (view self.now)) p.1 no_bid).receipt ≡ receipt)) }
     {
-        if let Some(place) = standing::find_receipt(self.up.as_slice(), receipt) {
-            return Some((Direction::Up, place));
-        }
-        match standing::find_receipt(self.down.as_slice(), receipt) {
-            Some(place) => Some((Direction::Down, place)),
-            None => None,
-        }
+        standing::find_receipt(self.up.as_slice(), receipt)
+            .map(|place| (Direction::Up, place))
+            .or_else(|| {
+                standing::find_receipt(self.down.as_slice(), receipt).map(|place| (
+                    Direction::Down,
+                    place,
+                ))
+            })
     }
 
     // The bid that stands with that receipt.
     pub fn find(&self, receipt: Receipt) -> Option<Bid>
         ensures { result ≡ standing_with receipt.0 (view self.now) }
     {
-        match self.place_of(receipt) {
-            Some((direction, place)) => Some(self.standing(direction)[place]),
-            None => None,
-        }
+        let (direction, place) = self.place_of(receipt)?;
+        Some(self.standing(direction)[place])
     }
 
     // The first bid of the hour in that direction that is not held.
@@ -72,10 +71,8 @@ impl Ladder {
         ensures side { IfSome result (λ b. b.direction ≡ direction) }
     {
         let bids = self.standing(direction);
-        match standing::first_free(bids, hour) {
-            Some(place) => Some(bids[place]),
-            None => None,
-        }
+        let place = standing::first_free(bids, hour)?;
+        Some(bids[place])
     }
 
     // The lowest upward price of the hour, held bids included.

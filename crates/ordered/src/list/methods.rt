@@ -18,8 +18,9 @@ impl<T> OrderedList<T> {
     pub fn new(heap: Global, space: usize) -> Result<OrderedList<T>, AllocError>
         ensures { IfOk result (λ l. (items l ≡ []) × (space_of l ≡ space)) }
     {
-        let records = Vec::with_capacity(heap, space)?;
-        Ok(OrderedList { records, space })
+        Ok(OrderedList {
+            records: Vec::with_capacity(heap, space)?,
+        })
     }
 
     pub fn len(&self) -> usize
@@ -58,10 +59,7 @@ impl<T: Ranked> OrderedList<T> {
         ensures only { rises T.before (items self.now) ≡ true → (k : ℕ) → SameAt T.same (items self.now) k like.now → result ≡ Some k }
         ensures test { rises T.before (items self.now) ≡ true → is_some result ≡ held T.same like.now (items self.now) }
     {
-        match seek(self.as_slice(), like) {
-            Ok(place) => Some(place),
-            Err(_) => None,
-        }
+        seek(self.as_slice(), like).ok()
     }
 
     // Removes the record at a place, counted from 0, and answers it.
@@ -87,18 +85,14 @@ impl<T: Ranked + Drop> OrderedList<T> {
         ensures refused { is_ok result ≡ false → items self.new ≡ items self.old }
         ensures space { space_of self.new ≡ space_of self.old }
     {
-        let place = match seek(self.as_slice(), &record) {
-            Ok(place) => {
-                self.records[place] = record;
-                return Ok(());
+        match seek(self.as_slice(), &record) {
+            Ok(place) => self.records[place] = record,
+            Err(_) if self.len() >= self.records.capacity() => return Err(Full),
+            // Room for it is reserved, so this cannot fail.
+            Err(place) => {
+                let _ = self.records.insert(place, record);
             }
-            Err(place) => place,
-        };
-        if self.len() >= self.space {
-            return Err(Full);
         }
-        // Room for it is reserved, so this cannot fail.
-        let _ = self.records.insert(place, record);
         Ok(())
     }
 }

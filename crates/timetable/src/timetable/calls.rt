@@ -27,10 +27,10 @@ impl Timetable {
     pub fn set_clock(&mut self, instant: Instant) -> Result<(), Refusal>
         ensures { Outcome (clock_row (times self.old) instant.0) result (times self.new ≡ times self.old) (λ _. times self.new ≡ with_clock instant.0 (times self.old)) }
     {
-        if instant.0 > i64::from(LATEST_CLOCK) {
+        if instant > Instant(i64::from(LATEST_CLOCK)) {
             return Err(Refusal::OutOfRange);
         }
-        if instant.0 < self.clock.0 {
+        if instant < self.clock {
             return Err(Refusal::ClockBack);
         }
         self.clock = instant;

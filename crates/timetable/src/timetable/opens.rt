@@ -25,11 +25,7 @@ const LEAD: i64 = OPENING_LEAD_MINUTES as i64;
 fn spot_prices(heap: Global, prices: &[i32]) -> Result<Vec<Price>, AllocError>
     ensures { IfOk result (λ spot. spot.items ≡ priced prices.now) }
 {
-    let mut spot = Vec::with_capacity(heap, prices.len())?;
-    for price in prices {
-        spot.push(Price(*price))?;
-    }
-    Ok(spot)
+    prices.iter().map(|price| Price(*price)).collect(heap)
 }
 
 impl Timetable {
@@ -51,12 +47,10 @@ impl Timetable {
     pub fn open(heap: Global, date: Date, prices: &[i32]) -> Result<Timetable, AllocError>
         ensures { IfOk result (λ t. times t ≡ opened_times date prices.now) }
     {
-        let Ok(start) = date.start() else {
+        // One pattern for both: a refusal and a day without a start alike give the day without hours, so no `?` fits.
+        let (None, Ok(start)) = (opening_refusal(date, prices), date.start()) else {
             return Ok(Timetable::empty(heap));
         };
-        if opening_refusal(date, prices).is_some() {
-            return Ok(Timetable::empty(heap));
-        }
         let spot = spot_prices(heap, prices)?;
         Ok(Timetable {
             date,

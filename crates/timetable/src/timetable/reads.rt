@@ -17,10 +17,7 @@ impl Timetable {
         ensures value { result ≡ (times self.now).opening.spot position.0 }
         ensures within { Within result }
     {
-        match self.spot.get(position.0) {
-            Some(price) => *price,
-            None => Price(0),
-        }
+        self.spot.get(position.0).copied().unwrap_or_default()
     }
 
     pub fn has_hour(&self, position: Position) -> bool
@@ -64,10 +61,8 @@ impl Timetable {
         if !self.has_hour(position) {
             return Err(Refusal::NotInDay);
         }
-        match self.date.stamp(position) {
-            Ok((hour, mark)) => Ok((u32::from(hour), mark)),
-            Err(refusal) => Err(refusal),
-        }
+        let (hour, mark) = self.date.stamp(position)?;
+        Ok((u32::from(hour), mark))
     }
 
     // The position of a stamp.
@@ -78,9 +73,7 @@ impl Timetable {
         if self.hours() == 0 {
             return Err(Refusal::NotInDay);
         }
-        match u8::try_from(hour) {
-            Ok(hour) => self.date.position(hour, mark),
-            Err(_) => Err(Refusal::NotInDay),
-        }
+        let hour = u8::try_from(hour).map_err(|_| Refusal::NotInDay)?;
+        self.date.position(hour, mark)
     }
 }

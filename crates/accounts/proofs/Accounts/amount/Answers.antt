@@ -1,8 +1,11 @@
-use Rattle.accounts.proofs.Entries.{amount_within, amount_past}
+use Rattle.std.proofs.Common.{◌≡◌, length, pos, unwrap_or, ap, ◌∙◌, arith, rules}
+use Rattle.market.specs.Figures.{most_parties}
+use Rattle.accounts.proofs.Entries.{amount_read, or_nothing}
 use Rattle.accounts.proofs.Accounts.amount.Goals as goal
 
-pub returns-then-party-lt-MOST_PARTIES : goal.returns-then-party-lt-MOST_PARTIES
-returns-then-party-lt-MOST_PARTIES c = amount_within c.args.self.now c.args.party.0 c.if-party-lt-MOST_PARTIES.true
-
-pub returns-else-party-lt-MOST_PARTIES : goal.returns-else-party-lt-MOST_PARTIES
-returns-else-party-lt-MOST_PARTIES c = amount_past c.args.self.now c.args.party.0 c.if-party-lt-MOST_PARTIES.false
+pub returns : goal.returns
+returns c =
+    let all : length c.args.self.now.parties ≡ most_parties = search rules in
+    or_nothing c.copied.result c.unwrap_or_default.result c.unwrap_or_default.ensures
+    ∙ ap (λ m. m.0) (ap (λ o. unwrap_or o (record { 0 = pos 0 })) c.copied.ensures ∙ c.get.ensures.lookup.4 (omega arith) (record { 0 = pos 0 }))
+    ∙ amount_read c.args.self.now c.args.party.0 all

@@ -1,8 +1,10 @@
-use Rattle.accounts.proofs.Entries.{settled_within, settled_past}
+use Rattle.std.proofs.Common.{◌≡◌, None, length, unwrap_or, ap, ◌∙◌, arith, rules}
+use Rattle.market.specs.Figures.{most_hours}
+use Rattle.accounts.proofs.Entries.{flattened, settled_read}
 use Rattle.accounts.proofs.Accounts.prices_of.Goals as goal
 
-pub returns-then-hour-lt-MOST_HOURS : goal.returns-then-hour-lt-MOST_HOURS
-returns-then-hour-lt-MOST_HOURS c = settled_within c.args.self.now c.args.hour.0 c.if-hour-lt-MOST_HOURS.true
-
-pub returns-else-hour-lt-MOST_HOURS : goal.returns-else-hour-lt-MOST_HOURS
-returns-else-hour-lt-MOST_HOURS c = settled_past c.args.self.now c.args.hour.0 c.if-hour-lt-MOST_HOURS.false
+pub returns : goal.returns
+returns c =
+    let all : length c.args.self.now.settled ≡ most_hours = search rules in
+    c.flatten.ensures ∙ flattened c.copied.result ∙ ap (λ o. unwrap_or o None) c.copied.ensures ∙ c.get.ensures.lookup.4 (omega arith) None
+    ∙ settled_read c.args.self.now c.args.hour.0 all

@@ -15,7 +15,7 @@ returns g c =
     let second = c.args.running.now in
     let run : Replay =
     record {
-      day = c.run_metered.new.day;
+      day = c.make_all-3.new.day;
       planned = c.in_ok-planned_answers.planned_answers;
       running = c.in_ok-running_answers.running_answers;
       metered = c.in_ok-metered_answers.metered_answers;

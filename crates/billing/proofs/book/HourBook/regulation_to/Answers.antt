@@ -1,50 +1,52 @@
-use Rattle.std.proofs.Common.{◌+◌, ◌*◌, ◌^◌, ◌<◌, cond, get_or, pos, sym, refl, ap, ◌∙◌, arith}
-use lib.IntN.{+ℤ_idr}
-use Rattle.std.proofs.lemmas.Bool.{cond-true, cond-false}
+use Rattle.std.proofs.Common.{◌^◌, ◌≤◌, cond, length, pos, subst, sym, ap, ◌∙◌, arith, rules, of_calls, SFits}
+use mir.Syntax.{w128}
+use borrow.Author.Tests.{tests}
+use Rattle.std.specs.List.{filter}
+use Rattle.std.proofs.lemmas.Int.{to_z-of_z}
+use Rattle.std.proofs.lemmas.Iterator.{YieldsList-from_slice, YieldsList-from_map}
+use Rattle.std.proofs.lemmas.Iterator.Consumers.{YieldsList-at, YieldsList-from_filter}
+use Rattle.integers.specs.Near.{Near}
 use Rattle.integers.specs.Sums.{sum_over}
-use Rattle.market.specs.Words.{no_activation}
-use Rattle.integers.proofs.Distances.{near_weaker, near_zero}
+use Rattle.integers.proofs.Sums.{sum_over-filter}
 use Rattle.settlement.specs.Payments.{payment}
 use Rattle.billing.specs.Booked.{of_party}
-use Rattle.billing.proofs.Running.{gathered_none, gathered_more, gathered_all}
-use Rattle.billing.proofs.Wide.{with_fits, with_is}
+use Rattle.billing.proofs.Summed.{summed, sum_fits, sum_near, fewer, near_part, near_part_is, near_part_near}
 use Rattle.billing.proofs.book.HourBook.regulation_to.Goals as goal
-use Rattle.billing.proofs.book.HourBook.regulation_to.Goals.{then-is_of, else-is_of}
 
-pub loop-activation-init : goal.loop-activation-init
-loop-activation-init c = gathered_none _ _
-
-few : (c : goal.After-payment-total) → c.loop-activation.activation-index * 2 ^ 66 + 2 ^ 66 < 2 ^ 127
-few c = omega (arith, c.loop-activation-test.true, c.as_slice-activation-items.ensures.bound)
-
-pub overflow_add-total : goal.overflow_add-total
-overflow_add-total c =
-    with_fits (c.loop-activation.activation-index * 2 ^ 66) _ _ (record { is = refl; near = c.loop-activation.invariant.near }) _ _ (record { is = refl; near = c.payment-total.ensures.bound }) (few c)
-
-pub loop-activation-preserved : goal.loop-activation-preserved
-loop-activation-preserved c =
-    let k = c.loop-activation.activation-index in
-    let a = get_or c.as_slice-activation-items.result.now c.loop-activation.activation-index no_activation in
-    let of = of_party c.args.self.now.position c.args.party.0 a in
-    let paid = payment c.args.minutes c.args.facts.now a in
-    let few : c.loop-activation.activation-index * 2 ^ 66 + 2 ^ 66 < 2 ^ 127 = omega (arith, c.loop-activation-test.true, c.as_slice-activation-items.ensures.bound) in
-    elim c.if-is_of.branch [
-      | then-is_of w ↦
-          gathered_more _ _ no_activation k _ _ w.payment-total.result c.loop-activation.invariant c.loop-activation-test.true
-          (w.payment-total.ensures.value ∙ sym (cond-true of paid (pos 0) (sym c.is_of.ensures ∙ w.if-is_of.true))) w.payment-total.ensures.bound
-          (w.total-is ∙ (with_is (k * 2 ^ 66) _ _ (record { is = refl; near = c.loop-activation.invariant.near }) _ _ (record { is = refl; near = w.payment-total.ensures.bound }) few).is)
-      | else-is_of w ↦
-          gathered_more _ _ no_activation k _ _ (pos 0) c.loop-activation.invariant c.loop-activation-test.true
-          (sym (cond-false of paid (pos 0) (sym c.is_of.ensures ∙ w.if-is_of.false))) (near_zero (2 ^ 66)) (w.total-is ∙ sym (+ℤ_idr _))
-    ]
+pub sum-requires : goal.sum-requires
+sum-requires c =
+    let xs = c.as_slice.result.now in
+    let own = of_party c.args.self.now.position c.args.party.0 in
+    let few : length xs ≤ 512 = c.as_slice.ensures.bound in
+    record {
+      can = search of_calls;
+      finite = search of_calls;
+      fits = sum_fits (λ a. near_part (2 ^ 66) (payment c.args.terms.now.minutes c.args.terms.now.priced.facts a)) (filter own xs)
+          (YieldsList-from_map _ (λ a. near_part (2 ^ 66) (payment c.args.terms.now.minutes c.args.terms.now.priced.facts a))
+          (YieldsList-at c.map.ensures.source (YieldsList-from_filter _ own (YieldsList-from_slice xs cc) c.filter.ensures.closure (λ x b q k. search (rules, tests))))
+          c.map.ensures.closure (λ x r q k. search (rules, near_part_is)))
+          (2 ^ 66) (λ a. near_part_near (2 ^ 66) _) (omega (arith, fewer own xs, few));
+    }
 
 pub returns : goal.returns
 returns c =
+    let xs = c.as_slice.result.now in
+    let own = of_party c.args.self.now.position c.args.party.0 in
+    let paid = payment c.args.terms.now.minutes c.args.terms.now.priced.facts in
+    let few : length xs ≤ 512 = c.as_slice.ensures.bound in
+    let f : SFits w128 c.sum.result = search rules in
+    let kept = to_z-of_z w128 c.sum.result f in
+    let value =
+    summed paid (filter own xs)
+    (YieldsList-from_map _ paid
+    (YieldsList-at c.map.ensures.source (YieldsList-from_filter _ own (YieldsList-from_slice xs cc) c.filter.ensures.closure (λ x b q k. search (rules, tests))))
+    c.map.ensures.closure (λ x r q k. search rules)) c.sum.result c.sum.ensures.ran in
+    let near =
+    summed (λ a. near_part (2 ^ 66) (paid a)) (filter own xs)
+    (YieldsList-from_map _ (λ a. near_part (2 ^ 66) (paid a))
+    (YieldsList-at c.map.ensures.source (YieldsList-from_filter _ own (YieldsList-from_slice xs cc) c.filter.ensures.closure (λ x b q k. search (rules, tests))))
+    c.map.ensures.closure (λ x r q k. search (rules, near_part_is))) c.sum.result c.sum.ensures.ran in
     record {
-      value = λ metered.
-          gathered_all _ _ c.loop-activation.activation-index _ c.loop-activation.invariant c.loop-activation-test.false
-          ∙ ap (sum_over (λ a. cond (of_party c.args.self.now.position c.args.party.0 a) (payment c.args.minutes c.args.facts.now a) (pos 0))) c.as_slice-activation-items.ensures.value;
-      bound =
-          near_weaker (c.loop-activation.activation-index * 2 ^ 66) (2 ^ 75) _
-          (omega (arith, c.loop-activation.auto.activation-index-end, c.as_slice-activation-items.ensures.bound)) c.loop-activation.invariant.near;
+      value = λ metered. kept ∙ value ∙ sum_over-filter own paid xs ∙ ap (sum_over (λ a. cond (own a) (paid a) (pos 0))) c.as_slice.ensures.value;
+      bound = subst (λ z. Near (2 ^ 75) z) (sym (kept ∙ near)) (sum_near (λ a. near_part (2 ^ 66) (paid a)) (2 ^ 66) (λ a. near_part_near (2 ^ 66) (paid a)) (filter own xs) (2 ^ 75) (omega (arith, fewer own xs, few)));
     }

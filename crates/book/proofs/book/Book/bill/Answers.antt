@@ -17,7 +17,7 @@ loop-number-preserved c =
     let parties = c.parties-number-end.ensures in (
       c.book.ensures.booked.settled ∙ c.loop-number.invariant.0,
       λ known roomy stage settled.
-          billed_more b.timetable b.positions b.notices b.ladder b.register b.sound stage settled c.args.hour c.args.facts.now c.args.prices.now known
+          billed_more b.timetable b.positions b.notices b.ladder b.register b.sound stage settled c.args.hour c.args.priced.now.facts c.args.priced.now.prices known
           c.args.accounts.now c.loop-number.accounts c.book.new.self c.loop-number.number c.due-due.result.0
           (omega (arith, c.loop-number-test.true, parties.value)) (omega (arith, parties.most, parties.value)) roomy
           (c.loop-number.invariant.1 known roomy stage settled) (c.due-due.ensures known stage settled) c.book.ensures.exactly,
@@ -30,5 +30,5 @@ returns c =
     record {
       settled = c.loop-number.invariant.0;
       billed = λ known roomy stage settled.
-          subst (λ n. Billed n (due_to price_setting_minutes c.args.facts.now c.args.prices.now (hour_at (shown stage settled b) c.args.hour.0)) c.args.accounts.now c.loop-number.accounts) last (c.loop-number.invariant.1 known roomy stage settled);
+          subst (λ n. Billed n (due_to price_setting_minutes c.args.priced.now.facts c.args.priced.now.prices (hour_at (shown stage settled b) c.args.hour.0)) c.args.accounts.now c.loop-number.accounts) last (c.loop-number.invariant.1 known roomy stage settled);
     }

@@ -12,5 +12,5 @@ use Rattle.book.proofs.book.Book.bill.Given as goal
 abbrev pub invariant-loop-number : goal.invariant-loop-number
 invariant-loop-number l =
     (settled_of l.accounts ≡ settled_of l.initial.accounts)
-    × (PricesFit l.facts l.prices → Roomy l.initial.accounts → (stage : Stage) (settled : ℕ → Option Prices)
-    → Billed l.number (due_to price_setting_minutes l.facts l.prices (hour_at (shown stage settled l.self) l.hour.0)) l.initial.accounts l.accounts)
+    × (PricesFit l.priced.facts l.priced.prices → Roomy l.initial.accounts → (stage : Stage) (settled : ℕ → Option Prices)
+    → Billed l.number (due_to price_setting_minutes l.priced.facts l.priced.prices (hour_at (shown stage settled l.self) l.hour.0)) l.initial.accounts l.accounts)

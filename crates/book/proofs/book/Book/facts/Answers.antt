@@ -1,8 +1,13 @@
-use Rattle.book.proofs.Asked.{few, facts_shown}
+use Rattle.journal.specs.Figures.{facts_at}
+use Rattle.book.proofs.Asked.{few}
 use Rattle.book.proofs.book.Book.facts.Goals as goal
 
 pub returns : goal.returns
-returns c stage prices =
-    let b = c.args.self.now in
-    facts_shown stage prices b.timetable b.positions b.notices b.ladder b.register c.args.hour c.facts_of.result c.spot.result c.as_slice.result.now c.standing.result.now c.standing-2.result.now
-    (c.facts_of.ensures.exact (few c.as_slice.result.now c.as_slice.ensures.bound)) c.spot.ensures.value c.as_slice.ensures.value c.standing.ensures.value c.standing-2.ensures.value
+unfolding facts_at
+returns c stage settled =
+    let facts = c.facts_of.ensures.exact (few c.as_slice.result.now c.as_slice.ensures.bound) in
+    let ups = c.standing.ensures.value in
+    let downs = c.standing-2.ensures.value in
+    let spot = c.spot.ensures.value in
+    let activations = c.as_slice.ensures.value in
+    cc

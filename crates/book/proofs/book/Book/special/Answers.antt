@@ -1,32 +1,18 @@
-use Rattle.std.proofs.Common.{◌≡◌, ltb, length, pos, sym, refl, ap, ◌∙◌, subst}
-use Rattle.market.specs.Figures.{most_activations}
-use Rattle.refusal.specs.Outcome.{Outcome}
+use Rattle.std.proofs.Common.{pos, refl}
+use Rattle.units.specs.declared.KilowattHours.{KilowattHours}
 use Rattle.market.specs.Words.{energy_of}
-use Rattle.timetable.specs.View.{times}
-use Rattle.register.specs.Registered.{registered, register_row, with_activation}
-use Rattle.rows.specs.Rows.{special_row}
-use Rattle.journal.specs.Journal.{special_of}
-use Rattle.book.proofs.Calls.{specially}
-use Rattle.book.proofs.Sounds.{specially_sound}
+use Rattle.rows.proofs.Checked.{lets_through}
+use Rattle.journal.specs.Journal.{Special, special_of}
+use Rattle.book.proofs.Calls.{specially, stopped}
 use Rattle.book.proofs.book.Book.special.Goals as goal
+
+pub returns-in_err-check_special : goal.returns-in_err-check_special
+returns-in_err-check_special c stage settled =
+    stopped _ (λ (x : KilowattHours). Special (special_of c.args.offer c.args.minutes.first c.args.minutes.last) x.0) _ _ _ c.from_residual.ensures.1
+    (rw (c.has_room-room.ensures, c.special-activation.ensures) at c.in_err-check_special.ensures)
 
 pub invariant_of-self : goal.invariant_of-self
 invariant_of-self c =
-    let b = c.args.self.now in
-    let t = times b.timetable in
-    let is = c.special-activation.ensures in
-    let none = sym (c.in_default.ensures ∙ ap (special_row t c.special-activation.result) c.has_room-room.ensures ∙ ap (λ a. special_row t a (ltb (length (registered b.register)) most_activations)) is) in
-    record {
-      sound = specially_sound b.timetable b.positions b.notices b.ladder b.register b.sound c.enter.new.self (special_of c.args.offer c.args.first_minute c.args.last_minute) c.enter.result none refl
-          (subst (λ a. Outcome (register_row (registered b.register)) c.enter.result (registered c.enter.new.self ≡ registered b.register) (λ _. registered c.enter.new.self ≡ with_activation a (registered b.register))) is c.enter.ensures);
-    }
-
-pub returns : goal.returns
-returns c stage settled =
-    let b = c.args.self.now in
-    let t = times b.timetable in
-    let is = c.special-activation.ensures in
-    let none = sym (c.in_default.ensures ∙ ap (special_row t c.special-activation.result) c.has_room-room.ensures ∙ ap (λ a. special_row t a (ltb (length (registered b.register)) most_activations)) is) in
-    specially stage settled b.timetable b.positions b.notices b.ladder b.register c.enter.new.self (special_of c.args.offer c.args.first_minute c.args.last_minute) c.energy.result.0 c.enter.result none refl
-    (c.energy.ensures.value ∙ ap (λ a. pos (energy_of a)) is)
-    (subst (λ a. Outcome (register_row (registered b.register)) c.enter.result (registered c.enter.new.self ≡ registered b.register) (λ _. registered c.enter.new.self ≡ with_activation a (registered b.register))) is c.enter.ensures)
+    let a = special_of c.args.offer c.args.minutes.first c.args.minutes.last in
+    let none = lets_through _ _ (rw (c.has_room-room.ensures, c.special-activation.ensures) at c.in_ok-check_special.ensures) in
+    record { sound = (specially c.args.self.now.sound c.enter.new.self a (record { 0 = pos (energy_of a) }) c.enter.result none refl refl (rw c.special-activation.ensures at c.enter.ensures)).sound }

@@ -1,11 +1,12 @@
-use Rattle.std.proofs.Common.{◌≡◌, not, ltb, None, sym, ap, ◌∙◌}
+use Rattle.std.proofs.Common.{◌≡◌, not, ltb, None, ap, ◌∙◌}
 use Rattle.std.proofs.lemmas.Bool.{not-false}
 use Rattle.refusal.specs.declared.Refusal.TheVariants.{UnknownParty}
 use Rattle.refusal.proofs.Outcomes.{accepted}
 use Rattle.timetable.specs.View.{times}
 use Rattle.timetable.proofs.Rows.{passed}
 use Rattle.units.specs.declared.Mills.{Mills}
-use Rattle.rows.specs.Rows.{account_row}
+use Rattle.rows.specs.Rows.{account_row, checked}
+use Rattle.rows.proofs.Checked.{lets_through}
 use Rattle.journal.specs.Reckoned.{account_at}
 use Rattle.journal.specs.Refused.{account_refused}
 use Rattle.day.specs.Parts.{metered_of}
@@ -19,6 +20,6 @@ returns c =
     let a = day.accounts in
     let p = c.args.party.0 in
     let f = metered_of b a in
-    let none = sym (c.account_refusal.ensures ∙ ap (λ x. account_row (times x) p) c.timetable.ensures) ∙ c.in_default.is in
+    let none = lets_through _ _ (c.in_ok-check_party.ensures ∙ ap (λ x. checked (account_row (times x) p)) c.timetable.ensures) in
     let entered = not-false (ltb p f.parties) (passed (not (ltb p f.parties)) UnknownParty None none).0 in
     accepted {X = Mills} (account_refused f p) Unit (λ amount. amount.0 ≡ account_at f p) c.amount.result none (account_is b a p c.amount.result.0 day.reckoned entered c.amount.ensures)

@@ -1,9 +1,8 @@
-use Rattle.std.proofs.Common.{sym}
+use Rattle.std.proofs.Common.{sym, rules}
 use Rattle.ordered.specs.Listed.{items, space_of}
-use Rattle.refusal.specs.declared.Refusal.TheVariants.{NoRoom}
-use Rattle.refusal.proofs.Outcomes.{accepted, refused}
+use Rattle.refusal.proofs.Outcomes.{accepted}
 use Rattle.notices.specs.Kept.{notice_row}
-use Rattle.notices.proofs.Taken.{replaces, zero_row, zero_found, zero_none, taken_row, full_row, taken_kept}
+use Rattle.notices.proofs.Taken.{replaces, zero_row, zero_found, zero_none, put_outcome}
 use Rattle.notices.proofs.table.NoticeTable.take.Goals as goal
 
 pub returns-in-Some : goal.returns-in-Some
@@ -26,22 +25,10 @@ returns-in_default c =
       replaces = replaces n xs;
     }
 
-pub returns-in-Ok : goal.returns-in-Ok
-returns-in-Ok c =
+pub returns-clause-outcome : goal.returns-clause-outcome
+returns-clause-outcome c =
     let table = c.args.self.now in
-    let n = c.args.notice in
-    let xs = items table.notices in
-    record {
-      outcome = accepted (notice_row n xs) _ _ tt (taken_row n xs (sym c.if-is_zero.ensures) (space_of table.notices) table.room (c.in-Ok.ensures.test table.rising)) (taken_kept n xs (sym c.if-is_zero.ensures) (space_of table.notices) table.room (items c.put.new.self) (c.in-Ok.ensures.items table.rising));
-      replaces = replaces n xs;
-    }
+    put_outcome c.args.notice (items table.notices) (items c.put.new.self) (space_of table.notices) c.put.result c.map_err.result (sym c.if-is_zero.ensures) table.room (c.put.ensures.test table.rising) (c.put.ensures.items table.rising) (search rules)
 
-pub returns-in-Err : goal.returns-in-Err
-returns-in-Err c =
-    let table = c.args.self.now in
-    let n = c.args.notice in
-    let xs = items table.notices in
-    record {
-      outcome = refused (notice_row n xs) _ _ NoRoom (full_row n xs (sym c.if-is_zero.ensures) (space_of table.notices) table.room (c.in-Err.ensures.test table.rising)) (c.in-Err.ensures.items table.rising);
-      replaces = replaces n xs;
-    }
+pub returns-clause-replaces : goal.returns-clause-replaces
+returns-clause-replaces c = replaces c.args.notice (items c.args.self.now.notices)

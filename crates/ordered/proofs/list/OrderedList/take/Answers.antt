@@ -1,26 +1,21 @@
-use Rattle.std.proofs.Common.{◌≡◌, true, sym, refl, subst, arith}
+use Rattle.std.proofs.Common.{sym, arith}
 use Rattle.std.proofs.lemmas.Option.{slice_get_past, slice_get_read}
-use Rattle.ordered.specs.Order.{rises}
+use Rattle.ordered.proofs.Keyed.{total_order}
 use Rattle.ordered.proofs.Removed.{removed_past, rises_removed}
 use Rattle.ordered.proofs.list.OrderedList.take.Goals as goal
 
-pub returns-then-place-len : goal.returns-then-place-len
-returns-then-place-len g c =
-    let v = c.args.self.now.records in
-    record {
-      value = sym (slice_get_past v.items c.args.place (omega arith));
-      items = removed_past v.items c.args.place (omega arith);
-      space = refl;
-      rises = λ h. h;
-    }
+pub returns-then-place-len-clause-value : goal.returns-then-place-len-clause-value
+returns-then-place-len-clause-value g c = sym (slice_get_past c.args.self.now.records.items c.args.place (omega arith))
 
-pub returns : goal.returns
-returns g c =
+pub returns-then-place-len-clause-items : goal.returns-then-place-len-clause-items
+returns-then-place-len-clause-items g c = removed_past c.args.self.now.records.items c.args.place (omega arith)
+
+pub returns-clause-value : goal.returns-clause-value
+returns-clause-value g c =
     let v = c.args.self.now.records in
-    let r = c.remove.ensures in
-    record {
-      value = sym (slice_get_read v.items v.len c.args.place c.remove.result v.ok.0 (omega arith) r.value);
-      items = r.items;
-      space = refl;
-      rises = λ h. subst (λ ys. rises g.T.Ranked.before ys ≡ true) (sym r.items) (rises_removed g.met.T.Ranked.order v.items c.args.place h);
-    }
+    sym (slice_get_read v.items v.len c.args.place c.remove.result v.ok.0 (omega arith) c.remove.ensures.value)
+
+pub returns-clause-rises : goal.returns-clause-rises
+returns-clause-rises g c =
+    let o = total_order g.met.T.Ranked.by_key g.met.T.Key.Ord.total in
+    λ h. rw c.remove.ensures.items (rises_removed o c.args.self.now.records.items c.args.place h)

@@ -1,12 +1,10 @@
-use Rattle.std.proofs.Common.{◌≡◌, refl, ap, ◌∙◌}
+use Rattle.std.proofs.Common.{sym, refl, ap, ◌∙◌}
 use Rattle.positions.specs.Records.{with_reading}
-use Rattle.positions.specs.Tables.{records_of}
-use Rattle.positions.proofs.Placed.{found, record_read, was_read}
+use Rattle.positions.proofs.Placed.{record_read, was_read}
 use Rattle.positions.proofs.table.PositionTable.set_reading.Goals as goal
 
-pub returns-in-Some : goal.returns-in-Some
-returns-in-Some c =
-    let t = c.args.self.now in
-    let at = found _ _ _ c.in-Some.ensures in
-    let was : c.index_mut.result.now ≡ records_of t c.args.hour.0 c.args.party.0 = record_read t c.args.hour.0 c.args.party.0 c.in-Some.place c.index_mut.result.now at.0 at.1 c.index_mut.ensures.value in
-    was_read t _ c.args.hour.0 c.args.party.0 c.in-Some.place _ at.0 at.1 refl c.args.meter c.args.energy (c.read.ensures ∙ ap (with_reading c.args.meter c.args.energy) was)
+pub returns-then-in_table : goal.returns-then-in_table
+returns-then-in_table c =
+    let there = sym c.if-in_table.ensures in
+    let row = c.index_mut.ensures.value in
+    was_read c.args.self.now _ c.args.hour.0 c.args.party.0 c.index_mut.result.now _ there row refl c.args.meter c.args.energy (c.read.ensures ∙ ap (with_reading c.args.meter c.args.energy) (record_read _ _ _ _ there row))

@@ -1,11 +1,6 @@
 use Rattle.std.proofs.Common.{length, vec_items}
-use Rattle.timetable.proofs.Days.{no_such_hour, turns}
+use Rattle.timetable.proofs.Days.{turns}
 use Rattle.timetable.proofs.timetable.Timetable.position.Goals as goal
 
-pub returns-in-Err : goal.returns-in-Err
-returns-in-Err c =
-    let t = c.args.self.now in
-    record {
-      value = no_such_hour (length (vec_items t.spot)) c.args.hour c.args.mark c.in-Err.ensures;
-      turns = turns t.date (length (vec_items t.spot)) t.hours;
-    }
+pub returns-in_err-hour-clause-turns : goal.returns-in_err-hour-clause-turns
+returns-in_err-hour-clause-turns c = let t = c.args.self.now in turns t.date (length (vec_items t.spot)) t.hours

@@ -1,19 +1,9 @@
-use Rattle.std.proofs.Common.{length, Ok, vec_items, ap, ◌∙◌}
-use Rattle.timetable.proofs.Days.{past_day, stamped, turns}
+use Rattle.std.proofs.Common.{length, vec_items}
+use Rattle.timetable.proofs.Days.{turns}
 use Rattle.timetable.proofs.timetable.Timetable.stamp.Goals as goal
 
-pub returns-then-not-has_hour : goal.returns-then-not-has_hour
-returns-then-not-has_hour c =
-    let t = c.args.self.now in
-    record {
-      value = past_day c.args.position.0 (length (vec_items t.spot)) _ c.if-not-has_hour.ensures;
-      turns = turns t.date (length (vec_items t.spot)) t.hours;
-    }
+pub returns-then-not-has_hour-clause-turns : goal.returns-then-not-has_hour-clause-turns
+returns-then-not-has_hour-clause-turns c = let t = c.args.self.now in turns t.date (length (vec_items t.spot)) t.hours
 
-pub returns-in-Ok : goal.returns-in-Ok
-returns-in-Ok c =
-    let t = c.args.self.now in
-    record {
-      value = ap (λ n. Ok (n, c.in-Ok.mark)) c.from.ensures ∙ stamped t.date (length (vec_items t.spot)) c.args.position.0 (Ok (c.in-Ok.hour, c.in-Ok.mark)) t.hours c.if-not-has_hour.ensures c.in-Ok.ensures.value;
-      turns = turns t.date (length (vec_items t.spot)) t.hours;
-    }
+pub returns-clause-turns : goal.returns-clause-turns
+returns-clause-turns c = let t = c.args.self.now in turns t.date (length (vec_items t.spot)) t.hours

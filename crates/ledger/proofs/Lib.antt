@@ -1,4 +1,0 @@
-pub mod Kept
-pub mod Accounts
-pub mod Law
-pub mod SampleDay

@@ -1,6 +1,0 @@
-use Rattle.std.proofs.Common.{◌∙◌}
-use Rattle.ledger.proofs.SampleDay.{billed}
-use Rattle.ledger.proofs.worked_accounts.Goals as goal
-
-pub returns : goal.returns
-returns c = c.hand_bill.ensures ∙ billed c.args.day
