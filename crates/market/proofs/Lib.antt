@@ -1,1 +1,2 @@
 pub mod EnergyLaws
+mod Keys

@@ -2,4 +2,3 @@ pub mod Energy
 pub mod Order
 pub mod Figures
 pub mod Words
-pub mod Keys

@@ -1,9 +1,10 @@
 // A notice, and the order in which notices stand.
 ghost use Rattle.std.specs.Prelude.{◌≡◌};
 ghost use Rattle.notices.specs.Order.{notice_before, notice_same, is_zero, notice_key};
-ghost use Rattle.ordered.proofs.Lexical.{lex_key, tuples};
+ghost use Rattle.ordered.proofs.Lexical.{lex_order};
 
 use ordered::Ranked;
+use std::cmp::Ordering;
 use units::{KilowattHours, Party, Position};
 
 // What the sender buys from the counterparty in the hour; negative where it sells.
@@ -21,20 +22,22 @@ impl Notice {
     {
         self.energy == KilowattHours(0)
     }
+
+    fn key(&self) -> (Position, Party, Party)
+        ensures { result ≡ (self.now.hour, self.now.sender, self.now.counterparty) }
+    {
+        (self.hour, self.sender, self.counterparty)
+    }
 }
 
 impl Ranked for Notice {
-    type Key = (Position, Party, Party);
-
     ghost before = { notice_before };
 
     ghost same = { notice_same };
 
-    ghost key = { λ n. (n.hour, n.sender, n.counterparty) };
+    ghost order = { lex_order notice_key };
 
-    ghost by_key = { lex_key notice_key (λ n. (n.hour, n.sender, n.counterparty)) (λ a b. Prim.simp tuples) };
-
-    fn key(&self) -> Self::Key {
-        (self.hour, self.sender, self.counterparty)
+    fn compare(&self, other: &Notice) -> Ordering {
+        self.key().cmp(&other.key())
     }
 }

@@ -1,5 +1,6 @@
 -- An order by one number, then the next, is a total order. Assumes nothing.
 --     lex_order numbers         the order of records by their numbers
+--     lex_compared numbers      what a comparison answers that compares the numbers
 --     lex_key numbers key       the same order by keys that compare as those numbers do
 --     tuples                    shows by simp that tuples of numbers do
 use Rattle.std.proofs.Common.{◌≡◌, ℕ, true, false, ◌⊎◌, List, [], ◌∷◌, ℤ, pos, negsuc, Ordering, Less, Equal, Greater, sym, refl, ap, ◌∙◌, inl, inr, arith}
@@ -7,10 +8,10 @@ use lib.Signed.{lt_z}
 use Rattle.std.proofs.lemmas.Bool.{and_parts, cases_order, eq-eqb, eqb-true, false≢true, le-ltb, lt-ltb, ne_eqb}
 use Rattle.std.proofs.lemmas.Cmp.{int_cmp_total, lists_total, tied_itself}
 use Rattle.std.specs.Cmp.Lexicographic.{slice_cmp}
-use Rattle.std.specs.Ordering.{int_cmp, is_eq, is_lt, nat_cmp, ordering_then}
+use Rattle.std.specs.Ordering.{MatchOrdering as ByAnswer, int_cmp, is_eq, is_lt, nat_cmp, ordering_then}
 use Rattle.ordered.specs.Lex.{eq_z, lex_before, lex_same}
 use Rattle.ordered.specs.Order.{ByKey, TotalOrder}
-use Rattle.ordered.proofs.Keyed.{total_order}
+use Rattle.ordered.proofs.Keyed.{compared, total_order}
 
 -- ---- one number
 
@@ -83,6 +84,9 @@ module _ {X : Type 0} (numbers : X → List ℤ) where
 
   pub lex_order : TotalOrder (λ a b. lex_before (numbers a) (numbers b)) (λ a b. lex_same (numbers a) (numbers b))
   lex_order = total_order (lex_key {R = slice_cmp int_cmp} numbers (λ a b. refl)) (lists_total int_cmp_total)
+
+  pub lex_compared : (a b : X) (r : Ordering) → r ≡ slice_cmp int_cmp (numbers a) (numbers b) → ByAnswer r (lex_before (numbers a) (numbers b) ≡ true) (lex_same (numbers a) (numbers b) ≡ true) (lex_before (numbers b) (numbers a) ≡ true)
+  lex_compared = compared (lex_key {R = slice_cmp int_cmp} numbers (λ a b. refl)) lex_order
 
 pub lex_same-itself : (xs : List ℤ) → lex_same xs xs ≡ true
 lex_same-itself xs = same_is xs xs ∙ ap is_eq (tied_itself (lists_total int_cmp_total) xs)

@@ -1,21 +1,20 @@
-// How a record brings its order: by a key, as in std's sorts and searches by key.
-ghost use Rattle.std.specs.Prelude.{◌≡◌, Bool};
-ghost use Rattle.ordered.specs.Order.{ByKey};
+// How a record brings its order.
+ghost use Rattle.std.specs.Prelude.{◌≡◌, Bool, true};
+ghost use Rattle.std.specs.Ordering.{MatchOrdering as ByAnswer};
+ghost use Rattle.ordered.specs.Order.{TotalOrder};
+
+use std::cmp::Ordering;
 
 pub trait Ranked {
-    type Key: Ord + Drop;
-
     // The one stands before the other.
     ghost before: { Self → Self → Bool };
 
     // The two take the same place, so a list holds at most one of them.
     ghost same: { Self → Self → Bool };
 
-    ghost key: { Self → Self.Key };
+    fn compare(&self, other: &Self) -> Ordering
+        ensures { ByAnswer result (before self.now other.now ≡ true) (same self.now other.now ≡ true) (before other.now self.now ≡ true) };
 
-    fn key(&self) -> Self::Key
-        ensures { result ≡ key self.now };
-
-    // The keys say which stands before and which take the same place, so before and same are a total order.
-    ghost by_key: { ByKey Self.Key.cmp key before same };
+    // Exactly one of before, same and after holds, and before and same pass on.
+    ghost order: { TotalOrder before same };
 }

@@ -54,6 +54,7 @@ impl<T> OrderedList<T> {
 
 impl<T: Ranked> OrderedList<T> {
     // The place of the held record that is the same.
+    #[tactic(auto, using(crate::proofs::Ensured::found_some, crate::proofs::Ensured::found_only, crate::proofs::Ensured::found_test))]
     pub fn find(&self, like: &T) -> Option<usize>
         ensures some { IfSome result (λ k. SameAt T.same (items self.now) k like.now) }
         ensures only { rises T.before (items self.now) ≡ true → (k : ℕ) → SameAt T.same (items self.now) k like.now → result ≡ Some k }

@@ -6,5 +6,5 @@ use crate::rank::Ranked;
 pub(super) fn seek<T: Ranked>(records: &[T], like: &T) -> Result<usize, usize>
     ensures { Sought T.before T.same records.now like.now result }
 {
-    records.binary_search_by_key(&like.key(), |record| record.key())
+    records.binary_search_by(|record| record.compare(like))
 }

@@ -1,6 +1,5 @@
 use Rattle.std.proofs.Common.{sym, arith}
 use Rattle.std.proofs.lemmas.Option.{slice_get_past, slice_get_read}
-use Rattle.ordered.proofs.Keyed.{total_order}
 use Rattle.ordered.proofs.Removed.{removed_past, rises_removed}
 use Rattle.ordered.proofs.list.OrderedList.take.Goals as goal
 
@@ -17,5 +16,5 @@ returns-clause-value g c =
 
 pub returns-clause-rises : goal.returns-clause-rises
 returns-clause-rises g c =
-    let o = total_order g.met.T.Ranked.by_key g.met.T.Key.Ord.total in
+    let o = g.met.T.Ranked.order in
     λ h. rw c.remove.ensures.items (rises_removed o c.args.self.now.records.items c.args.place h)

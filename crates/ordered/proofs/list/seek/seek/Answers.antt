@@ -1,10 +1,8 @@
-use Rattle.std.proofs.Common.{rules}
-use Rattle.std.proofs.lemmas.List.Sorted.{answers_always}
-use Rattle.ordered.proofs.Sought.{sought}
+use Rattle.std.proofs.Common.{rules, arith}
+use Rattle.ordered.proofs.Sought.{searched}
 use Rattle.ordered.proofs.list.seek.seek.Goals as goal
 
 pub returns : goal.returns
 returns g c =
-    let facts = c.binary_search_by_key.ensures in
-    let by_key = facts.position g.T.Ranked.key (answers_always _ _ _ (λ f a r f' called. search rules)) in
-    sought g.met.T.Key.Ord.total g.met.T.Ranked.by_key c.args.records.now c.args.like.now _ facts.bound (rw (← c.key.ensures) by_key)
+    let found = c.binary_search_by.ensures in
+    grind (arith, searched g.met.T.Ranked.order c.args.like.now c.args.records.now c.binary_search_by.result found.bound found.position (λ a r f' called. search rules))
