@@ -9,6 +9,7 @@ use crate::book::{HourBook, Metered};
 use crate::narrow::narrowed;
 use crate::payments::{Terms, priced};
 use market::{Activation, Portfolio};
+use pricing::Prices;
 use units::{Mills, Party};
 
 impl HourBook<'_> {
@@ -21,7 +22,7 @@ impl HourBook<'_> {
 
     // What the party's activations of the hour are paid, less what they are charged.
     pub fn regulation_to(&self, terms: &Terms, party: Party) -> i128
-        ensures value { (metered : Metered) → result ≡ regulation_to terms.now.minutes terms.now.priced.facts (hour_in self.now metered) party.0 }
+        ensures value { (metered : Metered) → result ≡ regulation_to terms.now.minutes terms.now.facts (hour_in self.now metered) party.0 }
         ensures bound { Near (2 ^ 75) result }
     {
         self.register
@@ -33,13 +34,13 @@ impl HourBook<'_> {
     }
 
     // The two imbalances priced, each alone, and the activations paid.
-    pub fn due(&self, terms: &Terms, metered: Metered) -> Mills
-        ensures { Booked terms.now.minutes terms.now.priced.facts terms.now.priced.prices (hour_in self.now metered) metered.party.0 result.0 }
+    pub fn due(&self, terms: &Terms, prices: &Prices, metered: Metered) -> Mills
+        ensures { Booked terms.now.minutes terms.now.facts prices.now (hour_in self.now metered) metered.party.0 result.0 }
     {
         let production = self.imbalance(Portfolio::Production, metered);
         let consumption = self.imbalance(Portfolio::ConsumptionAndTrade, metered);
-        let imbalances = priced(terms.priced.prices.production, production)
-            + priced(terms.priced.prices.consumption_and_trade, consumption);
+        let imbalances = priced(prices.production, production)
+            + priced(prices.consumption_and_trade, consumption);
         Mills(narrowed(imbalances + self.regulation_to(terms, metered.party)))
     }
 }

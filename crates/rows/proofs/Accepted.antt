@@ -26,16 +26,25 @@ use Rattle.rows.specs.Tests.{between, bid_fits, known, minutes_fit, outside, rig
 pub le_from : (a b : ℤ) → le_z a b ≡ true → a ≤ℤ b
 le_from a b e = grind (arith, ints)
 
+pub between_from : (least x greatest : ℤ) → between least x greatest ≡ true → (least ≤ℤ x) × (x ≤ℤ greatest)
+between_from least x greatest e = let a = and_parts (le_z least x) (le_z x greatest) e in (le_from least x a.0, le_from x greatest a.1)
+
+pub hour_from : (t : Times) (h : ℕ) → not (in_day t h) ≡ false → h < t.opening.hours
+hour_from t h e = ltb-true h t.opening.hours (not-false (in_day t h) e)
+
+pub party_from : (t : Times) (p : ℕ) → not (entered t p) ≡ false → p < t.parties
+party_from t p e = ltb-true p t.parties (not-false (entered t p) e)
+
 -- past a row that wants a test, the test holds
 tested : (test : Bool) (refusal : Refusal) (below : Option Refusal) → row (not test) refusal below ≡ None → (test ≡ true) × (below ≡ None)
 tested true refusal below e = (refl, e)
 tested false refusal below e = absurd (let z : ◌≡◌ {A = ℕ} 0 1 = cc in omega arith)
 
 pub hour_passed : (t : Times) (h : ℕ) (below : Option Refusal) → row (not (in_day t h)) NotInDay below ≡ None → (h < t.opening.hours) × (below ≡ None)
-hour_passed t h below e = let a = tested (in_day t h) NotInDay below e in (ltb-true h t.opening.hours a.0, a.1)
+hour_passed t h below e = let a = passed (not (in_day t h)) NotInDay below e in (hour_from t h a.0, a.1)
 
 pub party_passed : (t : Times) (p : ℕ) (below : Option Refusal) → row (not (entered t p)) UnknownParty below ≡ None → (p < t.parties) × (below ≡ None)
-party_passed t p below e = let a = tested (entered t p) UnknownParty below e in (ltb-true p t.parties a.0, a.1)
+party_passed t p below e = let a = passed (not (entered t p)) UnknownParty below e in (party_from t p a.0, a.1)
 
 pub hour_and_party_passed : (t : Times) (h p : ℕ) (below : Option Refusal) → row (not (in_day t h)) NotInDay (row (not (entered t p)) UnknownParty below) ≡ None
     → (h < t.opening.hours) × (p < t.parties) × (below ≡ None)
@@ -47,8 +56,8 @@ hour_and_party_passed t h p below e =
 pub energy_passed : (least x greatest : ℤ) (below : Option Refusal) → row (not (between least x greatest)) OutOfRange below ≡ None → (least ≤ℤ x) × (x ≤ℤ greatest) × (below ≡ None)
 energy_passed least x greatest below e =
     let a = tested (between least x greatest) OutOfRange below e in
-    let b = and_parts (le_z least x) (le_z x greatest) a.0 in
-    (le_from least x b.0, le_from x greatest b.1, a.1)
+    let b = between_from least x greatest a.0 in
+    (b.0, b.1, a.1)
 
 -- the clock stands at least 45 minutes before the hour
 pub gate_from : (t : Times) (h : ℕ) → gate_closed t h ≡ false → (t.clock +ℤ pos gate_minutes) ≤ℤ hour_start t h

@@ -1,24 +1,24 @@
 // Activations: of the first free bid, and special ones.
-ghost use Rattle.std.specs.Prelude.{◌≡◌, is_some};
+ghost use Rattle.std.specs.Prelude.{◌≡◌};
 ghost use Rattle.timetable.specs.View.{times};
 ghost use Rattle.rows.specs.Rows.{checked, activate_row, special_row};
 
 use crate::asking::{check_hour, check_party};
 use crate::fits::{minutes_fit, special_fits};
-use market::{Activation, Bid, Minutes};
+use market::{Activation, Minutes};
 use refusal::Refusal;
 use timetable::Timetable;
 use units::Position;
 
-// `room`: there is room for one more activation; `found`: the bid to activate.
+// `room`: there is room for one more activation; `found`: there is a bid to activate.
 pub fn check_activate(
     timetable: &Timetable,
     hour: Position,
     minutes: Minutes,
     room: bool,
-    found: Option<Bid>,
+    found: bool,
 ) -> Result<(), Refusal>
-    ensures { result ≡ checked (activate_row (times timetable.now) hour.0 minutes.first minutes.last room (is_some found)) }
+    ensures { result ≡ checked (activate_row (times timetable.now) hour.0 minutes.first minutes.last room found) }
 {
     check_hour(timetable, hour)?;
     if !minutes_fit(minutes) {
@@ -28,7 +28,9 @@ pub fn check_activate(
         return Err(Refusal::TooLate);
     }
     // Room counts only for a bid that is found.
-    found.ok_or(Refusal::NoSuchBid)?;
+    if !found {
+        return Err(Refusal::NoSuchBid);
+    }
     if !room {
         return Err(Refusal::NoRoom);
     }

@@ -13,15 +13,16 @@ use super::Book;
 use accounts::Accounts;
 use billing::Terms;
 use market::figures::PRICE_SETTING_MINUTES;
-use pricing::PricedHour;
+use pricing::{PricedHour, Prices};
 use units::{Mills, Party, Position};
 
 impl Book {
-    // What is due to a party in an hour, on these terms.
-    fn due(&self, hour: Position, party: Party, terms: &Terms) -> Mills
-        ensures { PricesFit terms.now.priced.facts terms.now.priced.prices → InEveryView self.now (λ f. result.0 ≡ due_to terms.now.minutes terms.now.priced.facts terms.now.priced.prices (hour_at f hour.0) party.0) }
+    // What is due to a party in an hour, on these terms and at these prices.
+    fn due(&self, hour: Position, party: Party, terms: &Terms, prices: &Prices) -> Mills
+        ensures { PricesFit terms.now.facts prices.now → InEveryView self.now (λ f. result.0 ≡ due_to terms.now.minutes terms.now.facts prices.now (hour_at f hour.0) party.0) }
     {
-        self.hour_book(hour).due(terms, self.metered(hour, party))
+        self.hour_book(hour)
+            .due(terms, prices, self.metered(hour, party))
     }
 
     // Books for every party what is due to it in the hour, and the counter-entry for the operator.
@@ -31,11 +32,11 @@ impl Book {
     {
         let terms = Terms {
             minutes: PRICE_SETTING_MINUTES,
-            priced: *priced,
+            facts: priced.facts,
         };
         for number in 0..self.timetable.parties() {
             let party = Party(number);
-            let due = self.due(hour, party, &terms);
+            let due = self.due(hour, party, &terms, &priced.prices);
             accounts.book(party, due);
         }
     }

@@ -94,7 +94,7 @@ impl Book {
         ensures { Call (λ f. activate_refused f hour.0 direction minutes.first minutes.last) (λ x. Activated hour direction minutes.first minutes.last x.0.0 x.1.0) result self.old self.new }
     {
         let room = self.register.has_room();
-        let found = self.ladder.first_free(hour, direction);
+        let found = self.ladder.first_free(hour, direction).is_some();
         check_activate(&self.timetable, hour, minutes, room, found)?;
         let bid = self
             .ladder

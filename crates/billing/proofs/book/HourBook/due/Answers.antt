@@ -22,7 +22,7 @@ returns c =
     ∙ sums _ _ _ _ _ c.imbalance-production.result.0 c.imbalance-consumption.result.0 _ _ _ c.priced.ensures.value c.priced-2.ensures.value c.imbalance-production.ensures.value c.imbalance-consumption.ensures.value (c.regulation_to.ensures.value c.args.metered)) in
     record {
       value = is;
-      exact = λ one other all. is ∙ booked_exact c.args.terms.now.minutes c.args.terms.now.priced.facts c.args.terms.now.priced.prices hour c.args.metered.party.0 one other all;
-      accepted = λ fits known. is ∙ booked_accepted c.args.terms.now.minutes c.args.terms.now.priced.facts c.args.terms.now.priced.prices hour c.args.metered.party.0 fits known;
-      small = λ fits known. booked_small c.args.terms.now.minutes c.args.terms.now.priced.facts c.args.terms.now.priced.prices hour c.args.metered.party.0 fits known _ is;
+      exact = λ one other all. is ∙ booked_exact c.args.terms.now.minutes c.args.terms.now.facts c.args.prices.now hour c.args.metered.party.0 one other all;
+      accepted = λ fits known. is ∙ booked_accepted c.args.terms.now.minutes c.args.terms.now.facts c.args.prices.now hour c.args.metered.party.0 fits known;
+      small = λ fits known. booked_small c.args.terms.now.minutes c.args.terms.now.facts c.args.prices.now hour c.args.metered.party.0 fits known _ is;
     }

@@ -21,8 +21,8 @@ sum-requires c =
     record {
       can = search of_calls;
       finite = search of_calls;
-      fits = sum_fits (λ a. near_part (2 ^ 66) (payment c.args.terms.now.minutes c.args.terms.now.priced.facts a)) (filter own xs)
-          (YieldsList-from_map _ (λ a. near_part (2 ^ 66) (payment c.args.terms.now.minutes c.args.terms.now.priced.facts a))
+      fits = sum_fits (λ a. near_part (2 ^ 66) (payment c.args.terms.now.minutes c.args.terms.now.facts a)) (filter own xs)
+          (YieldsList-from_map _ (λ a. near_part (2 ^ 66) (payment c.args.terms.now.minutes c.args.terms.now.facts a))
           (YieldsList-at c.map.ensures.source (YieldsList-from_filter _ own (YieldsList-from_slice xs cc) c.filter.ensures.closure (λ x b q k. search (rules, tests))))
           c.map.ensures.closure (λ x r q k. search (rules, near_part_is)))
           (2 ^ 66) (λ a. near_part_near (2 ^ 66) _) (omega (arith, fewer own xs, few));
@@ -32,7 +32,7 @@ pub returns : goal.returns
 returns c =
     let xs = c.as_slice.result.now in
     let own = of_party c.args.self.now.position c.args.party.0 in
-    let paid = payment c.args.terms.now.minutes c.args.terms.now.priced.facts in
+    let paid = payment c.args.terms.now.minutes c.args.terms.now.facts in
     let few : length xs ≤ 512 = c.as_slice.ensures.bound in
     let f : SFits w128 c.sum.result = search rules in
     let kept = to_z-of_z w128 c.sum.result f in

@@ -31,6 +31,6 @@ returns c =
     back (2 ^ 66) _ _ (omega arith)
     (reads_mul (2 ^ 35) (2 ^ 31) _ _ _ _ (record { is = c.match-activation.signed-is ∙ (turned c).is; near = (turned c).near }) (back (2 ^ 31) _ _ (omega arith) (price c))) in
     record {
-      value = product.is ∙ payment_is c.args.self.now.minutes c.args.self.now.priced.facts c.args.activation.now c.price_of-price.result _ _ c.price_of-price.ensures refl refl;
+      value = product.is ∙ payment_is c.args.self.now.minutes c.args.self.now.facts c.args.activation.now c.price_of-price.result _ _ c.price_of-price.ensures refl refl;
       bound = reads_near _ _ _ product;
     }

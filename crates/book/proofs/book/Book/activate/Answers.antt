@@ -10,11 +10,11 @@ use Rattle.book.proofs.book.Book.activate.Goals as goal
 pub returns-in_err-check_activate : goal.returns-in_err-check_activate
 returns-in_err-check_activate c stage settled =
     stopped _ (λ (x : Receipt × KilowattHours). Activated c.args.hour c.args.direction c.args.minutes.first c.args.minutes.last x.0.0 x.1.0) _ _ _ c.from_residual.ensures.1
-    (rw (c.has_room-room.ensures, c.first_free-found.ensures.value) at c.in_err-check_activate.ensures)
+    (rw (c.has_room-room.ensures, c.is_some-found.ensures, c.first_free.ensures.value) at c.in_err-check_activate.ensures)
 
 pub invariant_of-self-2 : goal.invariant_of-self-2
 invariant_of-self-2 c =
-    let none = lets_through _ _ (rw (c.has_room-room.ensures, c.first_free-found.ensures.value) at c.in_ok-check_activate.ensures) in
+    let none = lets_through _ _ (rw (c.has_room-room.ensures, c.is_some-found.ensures, c.first_free.ensures.value) at c.in_ok-check_activate.ensures) in
     let taken = c.take_first.ensures in
     record {
       sound = (activated c.args.self.now.sound c.take_first.new.self c.enter.new.self c.args.hour c.args.direction c.args.minutes.first c.args.minutes.last c.enter.result none
@@ -23,7 +23,7 @@ invariant_of-self-2 c =
 
 pub returns : goal.returns
 returns c =
-    let none = lets_through _ _ (rw (c.has_room-room.ensures, c.first_free-found.ensures.value) at c.in_ok-check_activate.ensures) in
+    let none = lets_through _ _ (rw (c.has_room-room.ensures, c.is_some-found.ensures, c.first_free.ensures.value) at c.in_ok-check_activate.ensures) in
     let taken = c.take_first.ensures in
     (activated c.args.self.now.sound c.take_first.new.self c.enter.new.self c.args.hour c.args.direction c.args.minutes.first c.args.minutes.last c.enter.result none
     c.in_ok-bid.ensures.ok_part taken.value taken.side taken.after c.listed-activation.ensures c.enter.ensures c.energy.result c.energy.ensures.value).called

@@ -14,7 +14,8 @@ returns c known stage settled =
     let m = c.metered.result in
     let own = c.metered.ensures in
     let terms = c.args.terms.now in
-    let booked_there = subst (λ hour. Booked terms.minutes terms.priced.facts terms.priced.prices hour m.party.0 c.due.result.0) (c.hour_book.ensures m) c.due.ensures in
-    let booked = subst (λ p. Booked terms.minutes terms.priced.facts terms.priced.prices (hour_for c.args.hour (times b.timetable).parties m (kept b.notices) (registered b.register)) p.0 c.due.result.0) own.party booked_there in
+    let prices = c.args.prices.now in
+    let booked_there = subst (λ hour. Booked terms.minutes terms.facts prices hour m.party.0 c.due.result.0) (c.hour_book.ensures m) c.due.ensures in
+    let booked = subst (λ p. Booked terms.minutes terms.facts prices (hour_for c.args.hour (times b.timetable).parties m (kept b.notices) (registered b.register)) p.0 c.due.result.0) own.party booked_there in
     ∥∥₁_elim b.sound (ℤ_set _ _) (λ s.
-    (due_shown b.timetable b.positions b.notices b.ladder b.register c.args.hour c.args.party.0 m own.plan own.produced own.consumed terms.minutes terms.priced.facts terms.priced.prices c.due.result.0 booked s known).0)
+    (due_shown b.timetable b.positions b.notices b.ladder b.register c.args.hour c.args.party.0 m own.plan own.produced own.consumed terms.minutes terms.facts prices c.due.result.0 booked s known).0)
