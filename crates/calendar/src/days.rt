@@ -41,12 +41,13 @@ impl Date {
         Some(CoveredDate { date: self })
     }
 
-    // This date, where its day has that position.
-    pub(crate) fn with_position(self, position: Position) -> Result<CoveredDate, Refusal>
-        ensures { MatchResult result (λ day. (day.date ≡ self) × (position.0 < hours_of self)) (λ refusal. (hours_of self ≤ position.0) × (refusal ≡ NotInDay)) }
+    // This date and the kind of its day, where the day has that position.
+    pub(crate) fn with_position(self, position: Position) -> Result<(CoveredDate, DayKind), Refusal>
+        ensures { MatchResult result (λ found. (found.0.date ≡ self) × (kind_hours found.1 ≡ hours_of self) × (position.0 < hours_of self)) (λ refusal. (hours_of self ≤ position.0) × (refusal ≡ NotInDay)) }
     {
         self.covered()
-            .filter(|day| position.0 < day.kind().hours())
+            .map(|day| (day, day.kind()))
+            .filter(|(_, kind)| position.0 < kind.hours())
             .ok_or(Refusal::NotInDay)
     }
 
@@ -73,7 +74,7 @@ impl Date {
         ensures value { result ≡ (if ltb position.0 (hours_of self) then Ok (record { 0 = start_at self position.0 }) else Err Refusal.NotInDay) }
         ensures rises { (p q : ℕ) → p < q → start_at self p <ℤ start_at self q }
     {
-        let day = self.with_position(position)?;
+        let (day, _) = self.with_position(position)?;
         Ok(Instant(day.midnight() + HOUR_MINUTES * position.0 as i64))
     }
 
@@ -82,8 +83,8 @@ impl Date {
         ensures value { result ≡ (if ltb position.0 (hours_of self) then Ok (ahead_at self position.0) else Err Refusal.NotInDay) }
         ensures rule { position.0 < hours_of self → Ahead (start_at self position.0) (ahead_at self position.0) }
     {
-        let day = self.with_position(position)?;
-        Ok(day.kind().ahead_in(day.start_ahead(), position.0))
+        let (day, kind) = self.with_position(position)?;
+        Ok(kind.ahead_in(day.start_ahead(), position.0))
     }
 }
 

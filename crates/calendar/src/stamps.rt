@@ -14,8 +14,8 @@ impl Date {
         ensures clock { position.0 < hours_of self → ClockShows self position.0 (stamp_of (hours_of self) position.0).0 }
         ensures marks { position.0 < hours_of self → Marked (hours_of self) position.0 (stamp_of (hours_of self) position.0).1 }
     {
-        let day = self.with_position(position)?;
-        Ok(day.kind().stamp(position.0 as u8))
+        let (_, kind) = self.with_position(position)?;
+        Ok(kind.stamp(position.0 as u8))
     }
 
     // The position of a stamp.

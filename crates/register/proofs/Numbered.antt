@@ -1,22 +1,16 @@
 -- Numbers of arrival are given in turn, so a new one is the same as none that is held.
-use Rattle.std.proofs.Common.{◌≡◌, ℕ, ◌+◌, ◌<◌, Bool, true, false, cond, ◌||◌, ltb, List, [], ◌∷◌, length, is_ok, MatchResult, Some, None, Ok, Err, Result, sym, refl, ap, ◌∙◌, subst, ⊎_elim, arith}
+use Rattle.std.proofs.Common.{◌≡◌, ℕ, ◌+◌, ◌<◌, Bool, true, false, cond, ◌||◌, ltb, List, [], ◌∷◌, length, sym, refl, ap, ◌∙◌, subst, ⊎_elim, arith}
 use Rattle.std.specs.List.{AllByRecursion}
 use Rattle.std.proofs.ByRecursion.{All-weaker}
-use Rattle.std.proofs.lemmas.Bool.{and_parts, and_from, ltb-true, lt-ltb, cond-true, cond-false, cases_Bool}
-use Rattle.std.proofs.Math.Bool.{or-false}
+use Rattle.std.proofs.lemmas.Bool.{and_parts, and_from, ltb-true, lt-ltb, or_left, cond-true, cond-false, cases_Bool}
 use Rattle.ordered.specs.Order.{held, placed, rises}
 use Rattle.ordered.proofs.Lexical.{lex_order, lex_same-true}
 use Rattle.ordered.proofs.Placed.{all_placed, length_placed}
 use Rattle.ordered.proofs.Rising.{not_held}
 use Rattle.market.specs.declared.words.Activation.{Activation}
 use Rattle.market.specs.Order.{activation_key, activation_before, activation_same}
-use Rattle.market.specs.Figures.{most_activations}
-use Rattle.refusal.specs.Outcome.{Outcome}
-use Rattle.refusal.specs.declared.Refusal.{Refusal}
-use Rattle.refusal.specs.declared.Refusal.TheVariants.{NoRoom}
-use Rattle.refusal.proofs.Outcomes.{accepted, refused}
 use Rattle.register.specs.Arrivals.{arrived_below}
-use Rattle.register.specs.Registered.{arrived, with_activation, register_row}
+use Rattle.register.specs.Registered.{arrived, with_activation}
 
 abbrev Earlier : ℕ → Activation → Type 0
 Earlier n a = a.arrival < n
@@ -57,23 +51,13 @@ module _ (xs : List Activation) (a : Activation) (rising : rises activation_befo
   still_numbered =
       subst (λ n. arrived_below n (with_activation a xs) ≡ true) (sym longer) (to_earlier (length xs + 1) (with_activation a xs) all_earlier)
 
-  -- what comes of an activation that is put under the number n: the list takes it, or has no room
-  module _ (n : ℕ) (is : n ≡ length xs) (ys : List Activation) (space : ℕ) (all : space ≡ most_activations) where
-    answered : (ok : Bool) → ok ≡ (ltb (length xs) space || held activation_same (arrived n a) xs) → ok ≡ ltb (length xs) most_activations
-    answered ok answer =
-        let none : held activation_same (arrived n a) xs ≡ false = ap (λ k. held activation_same (arrived k a) xs) is ∙ not_yet in
-        answer ∙ ap (λ b. ltb (length xs) space || b) none ∙ or-false (ltb (length xs) space) ∙ ap (ltb (length xs)) all
-
-    numbered_after : ys ≡ placed activation_before (arrived n a) xs → ys ≡ with_activation a xs
+  -- what the list answers and holds once the activation is put under the number n
+  module _ (n : ℕ) (is : n ≡ length xs) (ys : List Activation) (space : ℕ) (ok : Bool) (room : n < space) (answer : ok ≡ (ltb (length xs) space || held activation_same (arrived n a) xs)) (after : ys ≡ cond ok (placed activation_before (arrived n a) xs) xs) where
+    pub entered : ys ≡ with_activation a xs
     unfolding with_activation
-    numbered_after after = after ∙ ap (λ k. placed activation_before (arrived k a) xs) is
+    entered =
+        let yes : ok ≡ true = answer ∙ or_left (ltb (length xs) space) _ (lt-ltb (length xs) space (omega arith)) in
+        after ∙ cond-true ok _ _ yes ∙ ap (λ k. placed activation_before (arrived k a) xs) is
 
-    pub entered : {E : Type 0} (put : Result (Unit {0}) E) (r : Result (Unit {0}) Refusal) → is_ok put ≡ (ltb (length xs) space || held activation_same (arrived n a) xs) → ys ≡ cond (is_ok put) (placed activation_before (arrived n a) xs) xs → MatchResult put (λ x. r ≡ Ok x) (λ _. r ≡ Err NoRoom) → Outcome (register_row xs) r (ys ≡ xs) (λ _. ys ≡ with_activation a xs)
-    entered (Ok x) r answer after e =
-        rw e (accepted (register_row xs) _ _ x (cond-true (ltb (length xs) most_activations) None (Some NoRoom) (sym (answered true answer))) (numbered_after after))
-    entered (Err _) r answer after e =
-        rw e (refused (register_row xs) _ _ NoRoom (cond-false (ltb (length xs) most_activations) None (Some NoRoom) (sym (answered false answer))) after)
-
-    pub entered_numbered : (ok : Bool) → ys ≡ cond ok (placed activation_before (arrived n a) xs) xs → arrived_below (length ys) ys ≡ true
-    entered_numbered true after = subst (λ zs. arrived_below (length zs) zs ≡ true) (sym (numbered_after after)) still_numbered
-    entered_numbered false after = subst (λ zs. arrived_below (length zs) zs ≡ true) (sym after) numbered
+    pub entered_numbered : arrived_below (length ys) ys ≡ true
+    entered_numbered = subst (λ zs. arrived_below (length zs) zs ≡ true) (sym entered) still_numbered

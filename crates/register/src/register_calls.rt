@@ -43,12 +43,17 @@ impl Register {
     pub fn enter(&mut self, activation: Activation) -> Result<(), Refusal>
         ensures { Outcome (register_row (registered self.old)) result (registered self.new ≡ registered self.old) (λ _. registered self.new ≡ with_activation activation (registered self.old)) }
     {
+        let arrival = self.activations.len();
+        if arrival >= MOST_ACTIVATIONS {
+            return Err(Refusal::NoRoom);
+        }
         let numbered = Activation {
-            arrival: self.activations.len() as u32,
+            arrival: arrival as u32,
             ..activation
         };
-        // No held one has this number, so nothing is replaced.
-        self.activations.put(numbered).map_err(|_| Refusal::NoRoom)
+        // No held one has this number, so there is room and nothing is replaced.
+        let _ = self.activations.put(numbered);
+        Ok(())
     }
 
     // The upward and the downward energy of the hour's listed activations.

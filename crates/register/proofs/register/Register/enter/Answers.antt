@@ -1,5 +1,9 @@
-use Rattle.std.proofs.Common.{is_ok, ◌∙◌, rules}
+use Rattle.std.proofs.Common.{length, is_ok, ◌∙◌, arith}
+use Rattle.std.proofs.lemmas.Bool.{cond-true, lt-ltb}
 use Rattle.ordered.specs.Listed.{items, space_of}
+use Rattle.market.specs.Figures.{most_activations}
+use Rattle.refusal.proofs.Outcomes.{accepted}
+use Rattle.register.specs.Registered.{register_row}
 use Rattle.register.proofs.Numbered.{entered, entered_numbered}
 use Rattle.register.proofs.register.Register.enter.Goals as goal
 
@@ -9,10 +13,11 @@ invariant_of-self c =
     record {
       rising = c.put.ensures.rises before.rising;
       room = c.put.ensures.space ∙ before.room;
-      numbered = entered_numbered (items before.activations) c.args.activation before.rising before.numbered c.len.result c.len.ensures.value (items c.put.new.self) (space_of before.activations) before.room (is_ok c.put.result) (c.put.ensures.items before.rising);
+      numbered = entered_numbered (items before.activations) c.args.activation before.rising before.numbered c.len-arrival.result c.len-arrival.ensures.value (items c.put.new.self) (space_of before.activations) (is_ok c.put.result) (omega (arith, before.room)) (c.put.ensures.test before.rising) (c.put.ensures.items before.rising);
     }
 
 pub returns : goal.returns
 returns c =
     let before = c.args.self.now in
-    entered (items before.activations) c.args.activation before.rising before.numbered c.len.result c.len.ensures.value (items c.put.new.self) (space_of before.activations) before.room c.put.result c.map_err.result (c.put.ensures.test before.rising) (c.put.ensures.items before.rising) (search rules)
+    accepted (register_row (items before.activations)) _ _ tt (cond-true _ _ _ (lt-ltb (length (items before.activations)) most_activations (omega arith)))
+    (entered (items before.activations) c.args.activation before.rising before.numbered c.len-arrival.result c.len-arrival.ensures.value (items c.put.new.self) (space_of before.activations) (is_ok c.put.result) (omega (arith, before.room)) (c.put.ensures.test before.rising) (c.put.ensures.items before.rising))
