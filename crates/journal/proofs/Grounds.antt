@@ -121,7 +121,7 @@ taken_sound o b hour first last within side enough e lasts =
 sound_brings : (e : Entry) (f : Figures) → SoundEntry e f → Brings BidGrounds ActivationGrounds e f
 sound_brings (BidAccepted offer receipt) f l = let s = l.1.0 in record { entered = s.entered; enough = s.enough; price_within = s.price_within; side = s.side }
 sound_brings (Activated hour direction first last receipt energy) f l =
-    let t = l.1 in (t.bid, t.stands, λ s. record { entered = s.entered; listed = λ _. taken_sound f.opening t.bid hour first last s.price_within s.side s.enough t.of_the_hour t.lasts })
+    let t = l.1 in (t.bid, t.stands, λ s. record { entered = s.entered; listed = λ _. taken_sound f.opening t.bid hour first last s.price_within s.side s.enough t.of_the_hour (omega (arith, t.lasts)) })
 sound_brings (Special a energy) f l = record { entered = l.1.1; listed = λ e. cc (l.1.0, e) }
 sound_brings _ f l = tt
 

@@ -57,7 +57,7 @@ lawful_brings (Activated hour direction first last receipt energy) f l =
           record {
             entered = s.entered;
             fits = record { volume = omega (arith, s.most); minutes = omega (arith, t.lasts, ends); price = s.price_within };
-            listed = λ _. taken_sound f.opening t.bid hour first last s.price_within s.side s.enough t.of_the_hour t.lasts;
+            listed = λ _. taken_sound f.opening t.bid hour first last s.price_within s.side s.enough t.of_the_hour (omega (arith, t.lasts));
           },
     )
 lawful_brings (Special a energy) f l =

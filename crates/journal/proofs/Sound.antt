@@ -1,5 +1,5 @@
 -- A lawful journal is sound: where no row refuses a call, its acceptance guarantees what the law of the sums needs.
-use Rattle.std.proofs.Common.{List, [], ◌∷◌, is_some}
+use Rattle.std.proofs.Common.{List, [], ◌∷◌, is_some, arith}
 use Rattle.std.specs.List.{AllByRecursion}
 use Rattle.market.specs.declared.words.Bid.{Bid}
 use Rattle.ladder.specs.Ladder.{bids_of}
@@ -25,7 +25,7 @@ sound_entry (Activated hour direction first last receipt energy) f l =
     let t = l.1.1 in
     let free = is_first_free (λ b. Unit {0}) hour.0 (bids_of direction f.bids) t.bid (anything (bids_of direction f.bids)) t.is_first_free in
     let minutes = activating (times_of f) hour.0 first last (has_place f) (is_some (first_of f hour.0 direction)) l.1.0 in
-    (l.0, record { bid = t.bid; stands = t.stands; of_the_hour = free.1; of_direction = t.of_direction; lasts = minutes.0; answered = t.answered })
+    (l.0, record { bid = t.bid; stands = t.stands; of_the_hour = free.1; of_direction = t.of_direction; lasts = omega (arith, minutes.0); answered = t.answered })
 sound_entry (Special a energy) f l = (l.0, (l.1.1, (specially (times_of f) a (has_place f) l.1.0).0, l.1.2))
 sound_entry (Reading h p meter x) f l = (l.0, none_of (f.settled h) (reading (times_of f) h p x (is_settled f h) l.1).1)
 sound_entry (Settled h m) f l =

@@ -1,10 +1,14 @@
 -- The lowest and the highest price of a list, as `min` and `max` pick them, in words. Assumes nothing.
 use Rattle.std.proofs.Common.{◌≡◌, ℕ, zero, suc, ◌<◌, Bool, true, false, eqb, List, [], ◌∷◌, map, length, get_or, Some, None, filter, Option, ◌<ℤ◌, ◌⊎◌, Ordering, MatchOption, sym, refl, ap, ◌∙◌, subst, inl, inr, ⊎_elim, arith}
-use Rattle.std.specs.List.{fold, reduce}
+use Rattle.std.specs.Iterator.{Drains}
+use Rattle.std.specs.Iterator.Runs.{Run, EachRunFrom}
+use Rattle.std.specs.List.{fold, reduce, FoldsTo}
 use Rattle.std.specs.Cmp.{int_ranks}
 use Rattle.std.specs.Ordering.{int_cmp, min_by_ordering, max_by_ordering, MatchOrdering}
 use Rattle.std.specs.declared.cmp.Ordering.TheVariants.{Less, Equal, Greater}
 use Rattle.std.proofs.lemmas.Int.{ints}
+use Rattle.std.proofs.lemmas.Iterator.{YieldsList}
+use Rattle.std.proofs.lemmas.Iterator.Consumers.{reduce_from_yields_List}
 use Rattle.std.proofs.lemmas.Bool.{both_ways, cond_both, eqb-true, eq-eqb, ne_eqb}
 use Rattle.units.specs.declared.Position.{Position}
 use Rattle.units.specs.declared.Price.{Price}
@@ -181,6 +185,12 @@ in_words W hour bids (Some p) h =
       reached = (r.0, r.1, of_the_hour hour (get_or bids r.0 no_bid) r.2, r.3);
       bound = λ k within e. h.bound k within (stands hour (get_or bids k no_bid) e);
     }
+
+-- what a walk's `min` or `max` picks; `runs` tells which walk it was
+pub picked_by : {S A : Type 0} {steps : S → Option A → S → Type 0} {P : Run steps → Type 0} {all : List A} (pick : A → A → A) (s : S) (r : Option A) → EachRunFrom steps s P
+    → MatchOption r (Drains steps s []) (λ y. (x : A) × (xs : List A) × Drains steps s (x ∷ xs) × FoldsTo (λ p z c. c ≡ pick p z) x xs y)
+    → YieldsList steps (λ x. x) s all → r ≡ reduce pick all
+picked_by pick s r runs ran gives = reduce_from_yields_List pick s r ran gives
 
 -- r is what is picked of the prices of the hour
 pub standing_extreme : {W : Price → Price → Type 0} {pick : Price → Price → Price} → Ends W pick → (hour : Position) (bids : List Bid) (r : Option Price)

@@ -6,6 +6,7 @@ use Rattle.std.proofs.lemmas.Bool.{and_from, and_parts, both_ways, cases_eq, cas
 use Rattle.std.proofs.lemmas.Option.{none-some}
 use Rattle.std.specs.Array.{AllZipBelow}
 use Rattle.std.specs.Option.{MatchOption, UnwrapsOrElse}
+use Rattle.std.specs.Slice.{IsItemAt}
 use Rattle.units.specs.declared.KilowattHours.{KilowattHours}
 use Rattle.market.specs.Figures.{most_hours, most_parties}
 use Rattle.integers.specs.Places.{at, at_party}
@@ -163,6 +164,10 @@ outside t h p i =
 pub match_then : {X : Type 0} (o : Option X) (P : Type 0) (Q R : X → Type 0) → MatchOption o P Q → ((x : X) → Q x → R x) → MatchOption o P R
 match_then None P Q R m f = m
 match_then (Some x) P Q R m f = f x m
+
+-- what is read of a row, at a place that is p
+pub read_at : (xs : List PositionRecord) (i p : ℕ) (o : Option (Bor PositionRecord)) → IsItemAt xs i o → i ≡ p → unwrap_or (option_map (λ y. y.now) o) no_record ≡ get_or xs p no_record
+read_at xs i p o item at = item.4 (omega arith) no_record ∙ ap (λ j. get_or xs j no_record) at
 
 -- the default of each field
 abbrev pub Nothing : PositionRecord → Type 0

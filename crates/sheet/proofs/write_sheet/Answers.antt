@@ -12,5 +12,5 @@ returns c =
     let before = c.args.sheet.now in
     let fits : length (sheet_text f) ≤ length before = omega arith in
     let row : sheet_row f before ≡ None = grind (arith, nat_tests) in
-    let bytes = laid_whole c.new-cursor.result c.write_sheet_to.new.sink (sheet_text f) before c.new-cursor.ensures.place c.new-cursor.ensures.bytes fits c.write_sheet_to.ensures in
+    let bytes = laid_whole c.new-cursor.result c.write_sheet_to.new.sink (sheet_text f) before c.new-cursor.ensures.place (search rules) fits c.write_sheet_to.ensures in
     accepted _ _ _ _ row (record { count = omega arith; bytes = search rules })

@@ -1,7 +1,7 @@
 use Rattle.std.proofs.Common.{rules, tests}
 use Rattle.std.proofs.lemmas.Iterator.{YieldsList-from_map, YieldsList-from_slice}
-use Rattle.std.proofs.lemmas.Iterator.Consumers.{YieldsList-at, YieldsList-from_filter, reduce_from_yields_List}
-use Rattle.ladder.proofs.Extremes.{highest, of_hour, standing_extreme}
+use Rattle.std.proofs.lemmas.Iterator.Consumers.{YieldsList-at, YieldsList-from_filter}
+use Rattle.ladder.proofs.Extremes.{highest, of_hour, picked_by, standing_extreme}
 use Rattle.ladder.proofs.standing.highest_price.Goals as goal
 
 pub returns : goal.returns
@@ -9,7 +9,7 @@ returns c =
     let hour = c.args.hour in
     let bids = c.args.bids.now in
     standing_extreme highest hour bids _
-    (reduce_from_yields_List _ c.map.result _ c.max.ensures.ran
+    (picked_by _ c.map.result _ c.map.ensures.runs (assumption)
     (YieldsList-from_map _ _
     (YieldsList-at c.map.ensures.source
     (YieldsList-from_filter _ (of_hour hour) (YieldsList-at c.filter.ensures.source (YieldsList-from_slice bids cc)) c.filter.ensures.closure (λ x r q k. search (rules, tests))))

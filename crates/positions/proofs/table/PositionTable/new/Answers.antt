@@ -6,5 +6,5 @@ use Rattle.positions.proofs.table.PositionTable.new.Goals as goal
 pub returns : goal.returns
 returns c =
     all_empty _
-    (c.in_ok-hours.ensures.items_if_clones_equal (λ y same. copied y most_parties c.default.result same)
-    ∙ ap (λ r. replicate most_hours (replicate most_parties r)) (no_record_from c.default.result c.default.ensures))
+    (c.in_ok-hours.ensures.items_if_clones_equal (λ y same. copied y most_parties _ same)
+    ∙ ap (λ r. replicate most_hours (replicate most_parties r)) (no_record_from _ (assumption)))
