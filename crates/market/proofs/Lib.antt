@@ -1,2 +1,2 @@
 pub mod EnergyLaws
-mod Keys
+pub mod Keys
